@@ -1,24 +1,12 @@
 -- What the acknowledge cells and the trees of an assembled netlist drive is read by a gate, or requests a bank, or
 -- goes out.
-use Rattle.std.proofs.Common.{◌≡◌, ℕ, zero, suc, map, inl, inr, ◌⊎◌, sym, subst}
-use Rattle.std.specs.Prelude.{Contains}
-use Rattle.std.proofs.lemmas.Bool.{cases_eq}
-use Rattle.ncl_base.proofs.Members.{Member, Member-append_left, Member-append_right, Member-map, Member-from_Contains, Contains-from_Member, Contains-from_slice_get}
-use Rattle.ncl_netlist.specs.declared.cell.Cell.{Cell}
-use Rattle.ncl_netlist.specs.declared.ids.NetId.{NetId}
-use Rattle.ncl_netlist.specs.Netlist.{NetlistData}
-use Rattle.ncl_cell_rules.specs.Origin.{CellAt, IsOutputPort, RailOf, AckOf}
-use Rattle.ncl_cell_rules.specs.Rules.{IsRequest, IsReadByGate, IsTied}
-use Rattle.ncl_shape.specs.Stage.{out_of}
-use Rattle.ncl_shape.specs.Pipeline.{PipelineData}
-use Rattle.ncl_assembly.specs.Assembled.{WiredBit, WiredBank, HasGate, ack_nets, IsAssembled}
+use Rattle.ncl_assembly.proofs.Terms.{AckOf, All-member, Cell, CellAt, Contains, Contains-from_Member, Contains-from_slice_get, HasGate, IsAssembled, IsOutputPort, IsReadByGate, IsRequest, IsTied, Member, Member-append_left, Member-append_right, Member-from_Contains, Member-map, NetId, NetlistData, PipelineData, RailOf, WiredBank, WiredBit, ack_nets, cases_eq, inl, inr, map, out_of, subst, suc, sym, zero, ℕ, ◌≡◌, ◌⊎◌}
 use Rattle.ncl_assembly.proofs.ListPlaces.{member_at}
 use Rattle.ncl_assembly.proofs.WiredPlaces.{BankAt, wired_bank, first_root, next_root, stage_before}
 use Rattle.ncl_assembly.proofs.WiredCells.{ack_role, gate_role}
 use Rattle.ncl_assembly.proofs.WiredPorts.{ko_output}
 use Rattle.ncl_assembly.proofs.WiredPins.{some_register}
 use Rattle.ncl_assembly.proofs.CellsAreUnmixed.{gate_of_stage_only}
-use Rattle.ncl_base.proofs.Tests.{All-member}
 
 module _ (n : NetlistData) (p : PipelineData) (is : IsAssembled n p) where
   -- the root of a bank is `ko`, or requests the bank before it

@@ -1,19 +1,8 @@
 -- The banks of an assembled netlist follow one another in a chain.
-use Rattle.std.proofs.Common.{◌≡◌, ℕ, zero, suc, ◌+◌, ◌<◌, false, List, [], ◌∷◌, length, map, Some, inl, inr, refl, sym, ap, ◌∙◌, subst, arith}
-use Rattle.std.specs.Prelude.{Contains, slice_get}
-use Rattle.std.proofs.lemmas.List.{length-map}
-use Rattle.ncl_base.proofs.Members.{Member, Contains-from_slice_get}
-use Rattle.ncl_netlist.specs.Netlist.{NetlistData}
-use Rattle.ncl_cell_rules.specs.Origin.{A, IsInputPort, FromPort, RailOf, AckOf, port, HasOnlyOrigin}
-use Rattle.ncl_shape.specs.declared.bank.Bank.{Bank}
-use Rattle.ncl_shape.specs.Stage.{rail_nets}
-use Rattle.ncl_shape.specs.Chain.{IsInputOf, IsFirstBank, IsLastBank, Follows, IsPath, end, next, IsChain, HasRegister, HasEnds, IsUnforked, IsAcknowledged}
-use Rattle.ncl_shape.specs.Pipeline.{PipelineData}
-use Rattle.ncl_assembly.specs.Assembled.{WiredBit, WiredBank, bank_of, rails_read, IsAssembled}
+use Rattle.ncl_assembly.proofs.Terms.{A, AckOf, Bank, Contains, Contains-from_slice_get, Follows, FromPort, HasEnds, HasOnlyOrigin, HasRegister, IsAcknowledged, IsAssembled, IsChain, IsFirstBank, IsInputOf, IsInputPort, IsLastBank, IsPath, IsUnforked, List, Member, NetlistData, PipelineData, RailOf, Some, WiredBank, WiredBit, [], ap, arith, at_map, at_of_map, bank_of, end, false, inl, inr, length, length-map, map, next, port, rail_nets, rails_read, refl, slice_get, subst, suc, sym, zero, ℕ, ◌+◌, ◌<◌, ◌∙◌, ◌∷◌, ◌≡◌}
 use Rattle.ncl_assembly.proofs.WiredPlaces.{BankAt, as_many, first_bank, next_or_last, bank_at, bank_is_wired}
 use Rattle.ncl_assembly.proofs.WiredOrigins.{rail_among, port_only, next_read_only, request_only, last_request_port, requests_differ}
 use Rattle.ncl_assembly.proofs.WiredPins.{first_bit, last_bank, cell_of_rail, rail_cell_of_bank, some_register, role_in_bank, bank_of_request, read_by_bank, read_at, read_first, read_next}
-use Rattle.ncl_base.proofs.Places.{at_map, at_of_map}
 
 -- banks of which each follows the one before form a path
 path_from_places : (n : NetlistData) (banks : List ℕ) → 0 < length banks → ((k bank following : ℕ) → slice_get banks k ≡ Some bank → slice_get banks (suc k) ≡ Some following → Follows n bank following) → IsPath n banks

@@ -1,18 +1,6 @@
 -- Each bank of an assembled netlist has one root, and what goes out are the rails of the last bank and the root of the
 -- first.
-use Rattle.std.proofs.Common.{◌≡◌, ℕ, zero, suc, length, inl, inr, sym, ap, ◌∙◌, subst, arith}
-use Rattle.std.proofs.lemmas.Option.{slice_get_within}
-use Rattle.ncl_base.proofs.Members.{Member, slice_get-from_Contains}
-use Rattle.ncl_netlist.specs.declared.cell.Cell.{Cell}
-use Rattle.ncl_netlist.specs.declared.ids.NetId.{NetId}
-use Rattle.ncl_netlist.specs.Netlist.{NetlistData}
-use Rattle.ncl_cell_rules.specs.Origin.{IsCell, IsGate, IsOutputPort, FromPort, RailOf, AckOf, ComesFrom}
-use Rattle.ncl_cell_rules.specs.Rules.{IsRequest}
-use Rattle.ncl_cell_rules.proofs.OriginLaws.{place_of, port_origin}
-use Rattle.ncl_shape.specs.Stage.{rail_nets}
-use Rattle.ncl_shape.specs.Chain.{HasOne, IsRoot, HasRoots, IsShown, IsClosed, IsHead, IsEnd}
-use Rattle.ncl_shape.specs.Pipeline.{PipelineData}
-use Rattle.ncl_assembly.specs.Assembled.{WiredBit, WiredBank, rails_driven, IsAssembled}
+use Rattle.ncl_assembly.proofs.Terms.{AckOf, Cell, ComesFrom, FromPort, HasOne, HasRoots, IsAssembled, IsCell, IsClosed, IsEnd, IsGate, IsHead, IsOutputPort, IsRequest, IsRoot, IsShown, Member, NetId, NetlistData, PipelineData, RailOf, WiredBank, WiredBit, ap, arith, inl, inr, length, place_of, port_origin, rail_nets, rails_driven, slice_get-from_Contains, slice_get_within, subst, suc, sym, zero, ℕ, ◌∙◌, ◌≡◌}
 use Rattle.ncl_assembly.proofs.WiredPlaces.{BankAt, as_many, first_bank, next_or_last, first_root, next_root, last_driven}
 use Rattle.ncl_assembly.proofs.WiredCells.{gate_role}
 use Rattle.ncl_assembly.proofs.WiredPorts.{output_cases, rail_output, ko_output}

@@ -1,29 +1,11 @@
 -- What each cell of an assembled netlist reads has one origin.
-use Rattle.std.proofs.Common.{◌≡◌, ℕ, zero, suc, true, false, map, inl, inr, sym, ap, subst}
-use Rattle.std.proofs.lemmas.Bool.{both_ways, false_from_ne_true}
-use Rattle.ncl_gates.specs.Cell.{is_data_register}
-use Rattle.ncl_gates.proofs.RegisterLaws.{data_is_register}
-use Rattle.ncl_cell_rules.proofs.OriginLaws.{place_of}
-use Rattle.ncl_base.proofs.Members.{Member, Member-append_right, Member-map}
-use Rattle.ncl_gates.specs.declared.kind.Kind.{Kind}
-use Rattle.ncl_gates.specs.declared.cell_kind.CellKind.TheVariants.{Gate}
-use Rattle.ncl_netlist.specs.declared.cell.Cell.{Cell}
-use Rattle.ncl_netlist.specs.declared.ids.NetId.{NetId}
-use Rattle.ncl_netlist.specs.Netlist.{NetlistData}
-use Rattle.ncl_cell_rules.specs.Origin.{CellAt, IsCell, IsRegister, B, RST, IsInputPort, IsOfBank, IsDataBank, Origin, FromPort, RailOf, AckOf, ComesFrom, HasOnlyOrigin, HaveSameOrigins, IsTreeKind}
-use Rattle.ncl_cell_rules.specs.Rules.{IsFromOneRail, IsFromOneAck, IsGateOfOne, IsRegisterOfOne, IsUnmixed}
-use Rattle.ncl_cell_rules.proofs.CellTests.{same_net}
-use Rattle.ncl_shape.specs.declared.stage.StageCell.{StageCell}
-use Rattle.ncl_shape.specs.Stage.{rail_nets, out_of, nets_of}
-use Rattle.ncl_shape.specs.Pipeline.{PipelineData}
-use Rattle.ncl_assembly.specs.Assembled.{WiredBit, WiredBank, rails_read, ack_nets, IsAssembled}
+use Rattle.ncl_assembly.proofs.Terms.{AckOf, All-at, B, Cell, CellAt, ComesFrom, FromPort, Gate, HasOnlyOrigin, HaveSameOrigins, IsAssembled, IsCell, IsDataBank, IsFromOneAck, IsFromOneRail, IsGateOfOne, IsInputPort, IsOfBank, IsRegister, IsRegisterOfOne, IsTreeKind, IsUnmixed, Kind, Member, Member-append_right, Member-map, NetId, NetlistData, Origin, PipelineData, RST, RailOf, StageCell, WiredBank, WiredBit, ack_nets, ap, both_ways, data_is_register, false, false_from_ne_true, inl, inr, is_data_register, map, nets_of, out_of, place_of, rail_nets, rails_read, same_net, subst, suc, sym, true, zero, ℕ, ◌≡◌}
 use Rattle.ncl_assembly.proofs.ListPlaces.{member_at}
 use Rattle.ncl_assembly.proofs.WiredPlaces.{BankAt, wired_bank, bank_before, next_or_last}
 use Rattle.ncl_assembly.proofs.WiredCells.{TreeAt, GateAt, register_role, gate_role}
 use Rattle.ncl_assembly.proofs.WiredPorts.{rst_port}
 use Rattle.ncl_assembly.proofs.WiredOrigins.{port_only, stage_only, tree_only, request_only, last_request_port}
 use Rattle.ncl_assembly.proofs.WiredPins.{on_b, on_rst, read_by_bank, read_at, read_first, read_next}
-use Rattle.ncl_base.proofs.Tests.{All-at}
 
 module _ (n : NetlistData) (p : PipelineData) (is : IsAssembled n p) where
   -- the output of a gate of a stage comes from the rails of the bank before it alone

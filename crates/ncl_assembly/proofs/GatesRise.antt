@@ -1,26 +1,10 @@
 -- No gate of an assembled netlist lies on a cycle: a gate that reads another stands after it in the file.
-use Rattle.std.proofs.Common.{◌≡◌, ℕ, ◌<◌, List, ◌∷◌, ◌++◌, map, Some, inl, inr, refl, sym, ap, ◌∙◌, subst, arith}
-use Rattle.std.specs.Prelude.{All, Contains, slice_get}
-use Rattle.ncl_base.proofs.Members.{Member, here, Member-append_cases, Member-append_left, member_of_map, Member-from_Contains, Contains-from_slice_get}
-use Rattle.ncl_gates.specs.declared.cell_kind.CellKind.TheVariants.{Register, Ack}
-use Rattle.ncl_netlist.specs.declared.cell.Cell.{Cell}
-use Rattle.ncl_netlist.specs.declared.ids.NetId.{NetId}
-use Rattle.ncl_netlist.specs.Netlist.{NetlistData}
-use Rattle.ncl_cell_rules.specs.Origin.{IsCell, CellAt, IsGate, ReadsNet, LeadsTo, one, more}
-use Rattle.ncl_cell_rules.specs.Rules.{IsOffCycles}
-use Rattle.ncl_cell_rules.proofs.Drivers.{same_place, same_driver}
-use Rattle.ncl_cell_rules.proofs.OriginLaws.{place_of}
-use Rattle.ncl_shape.specs.declared.stage.StageCell.{StageCell}
-use Rattle.ncl_shape.specs.Stage.{Reads, rail_nets, out_of}
-use Rattle.ncl_shape.specs.Pipeline.{PipelineData}
-use Rattle.ncl_assembly.specs.Assembled.{WiredBit, WiredBank, rails_driven, HasGate, gate_numbers, IsAssembled}
+use Rattle.ncl_assembly.proofs.Terms.{Ack, All, All-member, Cell, CellAt, Contains, Contains-from_slice_get, HasGate, IsAssembled, IsCell, IsGate, IsOffCycles, LeadsTo, List, Member, Member-append_cases, Member-append_left, Member-from_Contains, NetId, NetlistData, PipelineData, Reads, ReadsNet, Register, Some, StageCell, WiredBank, WiredBit, ap, arith, divided_at, gate_numbers, here, inl, inr, map, member_of_map, more, one, out_of, place_of, rail_nets, rails_driven, refl, same_driver, same_place, slice_get, subst, sym, ℕ, ◌++◌, ◌<◌, ◌∙◌, ◌∷◌, ◌≡◌}
 use Rattle.ncl_assembly.proofs.ListPlaces.{place_of_member, pairs_of_map, pairs-across, Rise}
 use Rattle.ncl_assembly.proofs.WiredPlaces.{BankAt, wired_bank, wired_bit, wired_stage, bank_before, stage_driven}
 use Rattle.ncl_assembly.proofs.WiredCells.{gate_role, tree_rises, stage_rises}
 use Rattle.ncl_assembly.proofs.WiredOrigins.{rail_of_bits}
 use Rattle.ncl_assembly.proofs.WiredPins.{cell_of_rail, rail_cell_of_bank}
-use Rattle.ncl_base.proofs.Tests.{All-member}
-use Rattle.ncl_base.proofs.Places.{divided_at}
 
 module _ (n : NetlistData) (p : PipelineData) (is : IsAssembled n p) where
   -- a net that no gate drives

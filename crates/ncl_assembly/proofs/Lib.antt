@@ -1,3 +1,4 @@
+mod Terms
 pub mod ListPlaces
 pub mod WiredPlaces
 pub mod WiredCells

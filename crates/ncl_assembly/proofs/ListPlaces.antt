@@ -1,13 +1,5 @@
 -- What stands at the places of lists that are mapped, or put together of parts.
-use Rattle.std.proofs.Common.{◌≡◌, ℕ, zero, suc, ◌<◌, List, [], ◌∷◌, ◌++◌, map, get_or, Some, inl, inr, refl, ap, ◌∙◌, subst, arith}
-use Rattle.std.specs.Prelude.{AllPairs, slice_get}
-use Rattle.std.specs.List.{flat_map, range_with_len}
-use Rattle.std.proofs.lemmas.List.FromFn.{length-range_with_len, get_or-range_with_len}
-use Rattle.std.proofs.lemmas.List.Kept.{AllPairs-cons}
-use Rattle.std.proofs.lemmas.Option.{slice_get-get_or}
-use Rattle.ncl_base.proofs.Lists.{pairs-head, pairs-tail}
-use Rattle.ncl_base.proofs.Members.{Member, here, there, Member-append_left, Member-append_right, Member-append_cases, Member-map, Member-from_Contains, Contains-from_Member, Contains-from_slice_get, slice_get-from_Contains, All-from_members}
-use Rattle.ncl_base.proofs.Joined.{Member-flat_map}
+use Rattle.ncl_assembly.proofs.Terms.{All-from_members, AllPairs, AllPairs-cons, Contains-from_Member, Contains-from_slice_get, List, Member, Member-append_cases, Member-append_left, Member-append_right, Member-flat_map, Member-from_Contains, Member-map, Some, [], ap, arith, flat_map, get_or, get_or-range_with_len, here, inl, inr, length-range_with_len, map, pairs-head, pairs-tail, range_with_len, refl, slice_get, slice_get-from_Contains, slice_get-get_or, subst, suc, there, zero, ℕ, ◌++◌, ◌<◌, ◌∙◌, ◌∷◌, ◌≡◌}
 
 -- a member stands at a place, and what stands at a place is a member
 pub place_of_member : {X : Type 0} (xs : List X) (x : X) → Member x xs → (k : ℕ) × (slice_get xs k ≡ Some x)

@@ -1,15 +1,5 @@
 -- Each input port of an assembled netlist is read by a pin.
-use Rattle.std.proofs.Common.{◌≡◌, ℕ, zero, Bool, false, Some, inl, inr, sym, ap, subst}
-use Rattle.std.specs.Prelude.{slice_get}
-use Rattle.ncl_base.proofs.Members.{Member}
-use Rattle.ncl_netlist.specs.declared.cell.Cell.{Cell}
-use Rattle.ncl_netlist.specs.Netlist.{NetlistData}
-use Rattle.ncl_cell_rules.specs.Origin.{IsCell, ReadsNet, OnPin, A, B, RST}
-use Rattle.ncl_cell_rules.specs.Rules.{IsReadPort}
-use Rattle.ncl_cell_rules.proofs.OriginLaws.{ReadsNet-from_pin}
-use Rattle.ncl_shape.specs.Stage.{rail_nets}
-use Rattle.ncl_shape.specs.Pipeline.{PipelineData}
-use Rattle.ncl_assembly.specs.Assembled.{WiredBit, WiredBank, rails_read, IsAssembled}
+use Rattle.ncl_assembly.proofs.Terms.{A, B, Bool, Cell, IsAssembled, IsCell, IsReadPort, Member, NetlistData, OnPin, PipelineData, RST, ReadsNet, ReadsNet-from_pin, Some, WiredBank, WiredBit, ap, false, inl, inr, rail_nets, rails_read, slice_get, subst, sym, zero, ℕ, ◌≡◌}
 use Rattle.ncl_assembly.proofs.WiredPlaces.{BankAt, first_bank, first_reads, last_request}
 use Rattle.ncl_assembly.proofs.WiredPorts.{input_cases}
 use Rattle.ncl_assembly.proofs.WiredOrigins.{rail_of_bits}

@@ -1,22 +1,5 @@
 -- Each input port of an assembled netlist has one role: it is on A of one register cell, or on B, or on RST.
-use Rattle.std.proofs.Common.{◌≡◌, ℕ, zero, suc, ◌<◌, Bool, true, false, List, [], ◌∷◌, map, Some, inl, inr, refl, sym, ap, ◌∙◌, subst, arith}
-use Rattle.std.specs.Prelude.{slice_get}
-use Rattle.std.specs.List.{flat_map}
-use Rattle.ncl_base.proofs.Lists.{pairs-head}
-use Rattle.ncl_base.proofs.Members.{Member, here, there, Contains-from_slice_get}
-use Rattle.ncl_gates.specs.declared.cell_kind.CellKind.TheVariants.{Register}
-use Rattle.ncl_gates.specs.Cell.{pins_of}
-use Rattle.ncl_netlist.specs.declared.cell.Cell.{Cell}
-use Rattle.ncl_netlist.specs.declared.ids.NetId.{NetId}
-use Rattle.ncl_netlist.specs.Netlist.{NetlistData}
-use Rattle.ncl_cell_rules.specs.Origin.{IsCell, CellAt, IsGate, OnPin, A, B, RST, IsInputPort, Origin, FromPort, RailOf, AckOf, port, gate, HasOnlyOrigin}
-use Rattle.ncl_cell_rules.proofs.CellTests.{same_net}
-use Rattle.ncl_cell_rules.proofs.OriginLaws.{place_of, ReadsNet-from_pin}
-use Rattle.ncl_shape.specs.declared.rails.Rails.{Rails}
-use Rattle.ncl_shape.specs.Stage.{rail_nets}
-use Rattle.ncl_shape.specs.Chain.{OnPinNamed, HasOneRole}
-use Rattle.ncl_shape.specs.Pipeline.{PipelineData}
-use Rattle.ncl_assembly.specs.Assembled.{WiredBit, WiredBank, rails_read, IsAssembled}
+use Rattle.ncl_assembly.proofs.Terms.{A, AckOf, B, Bool, Cell, CellAt, Contains-from_slice_get, FromPort, HasOneRole, HasOnlyOrigin, IsAssembled, IsCell, IsGate, IsInputPort, List, Member, NetId, NetlistData, OnPin, OnPinNamed, Origin, PipelineData, RST, RailOf, Rails, ReadsNet-from_pin, Register, Some, WiredBank, WiredBit, [], ap, arith, false, flat_map, gate, here, inl, inr, map, pairs-head, pins_of, place_of, port, rail_nets, rails_read, refl, same_net, slice_get, subst, suc, sym, there, true, zero, ℕ, ◌<◌, ◌∙◌, ◌∷◌, ◌≡◌}
 use Rattle.ncl_assembly.proofs.ListPlaces.{member_at, pairs_of_part, Rise, part_is_one}
 use Rattle.ncl_assembly.proofs.WiredPlaces.{BankAt, next_or_last, first_reads, last_request}
 use Rattle.ncl_assembly.proofs.WiredCells.{register_of, net_of_rail, RegisterAt, AckAt, Role, to_keep, to_acknowledge, to_complete, to_compute, role_of}

@@ -1,17 +1,5 @@
 -- The pins of the cells of an assembled netlist, and the banks of its register cells.
-use Rattle.std.proofs.Common.{◌≡◌, ℕ, zero, suc, ◌-◌, Bool, false, [], ◌∷◌, length, Some, sym, ap, subst, arith}
-use Rattle.std.specs.Prelude.{slice_get}
-use Rattle.ncl_base.proofs.Members.{Member, slice_get-some}
-use Rattle.ncl_gates.specs.declared.cell_kind.CellKind.TheVariants.{Register}
-use Rattle.ncl_netlist.specs.declared.cell.Cell.{Cell}
-use Rattle.ncl_netlist.specs.declared.ids.NetId.{NetId}
-use Rattle.ncl_netlist.specs.Netlist.{NetlistData}
-use Rattle.ncl_cell_rules.specs.Origin.{CellAt, OnPin, A, B, RST, IsInputPort, IsOfBank, RailOf, HasOnlyOrigin}
-use Rattle.ncl_cell_rules.proofs.CellTests.{same_net}
-use Rattle.ncl_cell_rules.proofs.OriginLaws.{place_of}
-use Rattle.ncl_shape.specs.Stage.{rail_nets}
-use Rattle.ncl_shape.specs.Pipeline.{PipelineData}
-use Rattle.ncl_assembly.specs.Assembled.{WiredBit, WiredBank, rails_read, rails_driven, HasCell, IsAssembled}
+use Rattle.ncl_assembly.proofs.Terms.{A, B, Bool, Cell, CellAt, HasCell, HasOnlyOrigin, IsAssembled, IsInputPort, IsOfBank, Member, NetId, NetlistData, OnPin, PipelineData, RST, RailOf, Register, Some, WiredBank, WiredBit, [], ap, arith, false, length, place_of, rail_nets, rails_driven, rails_read, same_net, slice_get, slice_get-some, subst, suc, sym, zero, ℕ, ◌-◌, ◌∷◌, ◌≡◌}
 use Rattle.ncl_assembly.proofs.WiredPlaces.{BankAt, wired_bank, wired_bit, as_many, stage_before}
 use Rattle.ncl_assembly.proofs.WiredCells.{register_of, net_of_rail, register_cell, RegisterAt, register_role}
 use Rattle.ncl_assembly.proofs.WiredPorts.{rail_port}

@@ -1,17 +1,5 @@
 -- An assembled netlist by place: what holds of its banks and stages, and how each joins the next.
-use Rattle.std.proofs.Common.{◌≡◌, ℕ, zero, suc, [], ◌∷◌, ◌++◌, length, map, Some, inl, inr, ◌⊎◌, sym, ap, ◌∙◌, arith}
-use Rattle.std.specs.Prelude.{slice_get}
-use Rattle.std.proofs.lemmas.Bool.{cases_lt}
-use Rattle.std.proofs.lemmas.List.{length-map}
-use Rattle.std.proofs.lemmas.Option.{slice_get_within}
-use Rattle.ncl_base.proofs.Members.{slice_get-some}
-use Rattle.ncl_netlist.specs.Netlist.{NetlistData}
-use Rattle.ncl_shape.specs.declared.bank.Bank.{Bank}
-use Rattle.ncl_shape.specs.Stage.{StageData}
-use Rattle.ncl_shape.specs.Pipeline.{PipelineData}
-use Rattle.ncl_assembly.specs.Assembled.{WiredBit, WiredBank, bank_of, rails_read, rails_driven, IsWiredBit, IsWiredBank, IsWiredStage, IsAssembled}
-use Rattle.ncl_base.proofs.Places.{slice_get-kept, slice_get-end, at_map, at_of_map}
-use Rattle.ncl_base.proofs.Tests.{All-at}
+use Rattle.ncl_assembly.proofs.Terms.{All-at, Bank, IsAssembled, IsWiredBank, IsWiredBit, IsWiredStage, NetlistData, PipelineData, Some, StageData, WiredBank, WiredBit, [], ap, arith, at_map, at_of_map, bank_of, cases_lt, inl, inr, length, length-map, map, rails_driven, rails_read, slice_get, slice_get-end, slice_get-kept, slice_get-some, slice_get_within, suc, sym, zero, ℕ, ◌++◌, ◌∙◌, ◌∷◌, ◌≡◌, ◌⊎◌}
 
 -- the request and the root of a bank
 abbrev pub request_of : WiredBank → ℕ

@@ -1,19 +1,6 @@
 -- The ports of an assembled netlist: which nets are input ports, and which are output ports.
-use Rattle.std.proofs.Common.{◌≡◌, ℕ, zero, suc, ◌<◌, Bool, true, false, List, [], ◌∷◌, ◌++◌, length, map, Some, inl, inr, ◌⊎◌, refl, sym, subst, arith}
-use Rattle.std.specs.Prelude.{slice_get}
-use Rattle.std.specs.List.{range_with_len}
-use Rattle.std.proofs.lemmas.List.FromFn.{length-range_with_len}
-use Rattle.std.proofs.lemmas.Option.{slice_get_within}
-use Rattle.ncl_base.proofs.Lists.{pairs-head}
-use Rattle.ncl_base.proofs.Members.{Member, here, there, member_cases, Member-append_left, Member-append_right, Member-append_cases}
-use Rattle.ncl_netlist.specs.declared.port.Port.{Port}
-use Rattle.ncl_netlist.specs.Netlist.{NetlistData}
-use Rattle.ncl_cell_rules.specs.Origin.{IsInputPort, IsOutputPort}
-use Rattle.ncl_shape.specs.Stage.{rail_nets}
-use Rattle.ncl_shape.specs.Pipeline.{PipelineData}
-use Rattle.ncl_assembly.specs.Assembled.{input_nets, output_nets, IsAssembled}
+use Rattle.ncl_assembly.proofs.Terms.{Bool, IsAssembled, IsInputPort, IsOutputPort, List, Member, Member-append_cases, Member-append_left, Member-append_right, NetlistData, PipelineData, Port, Some, [], arith, at_map, at_of_map, false, here, inl, input_nets, inr, length, length-range_with_len, map, member_cases, output_nets, pairs-head, rail_nets, range_with_len, refl, slice_get, slice_get_within, subst, suc, sym, there, true, zero, ℕ, ◌++◌, ◌<◌, ◌∷◌, ◌≡◌, ◌⊎◌}
 use Rattle.ncl_assembly.proofs.ListPlaces.{member_at, pairs-left, pairs-right, pairs-across, Rise, range_rises, at_range}
-use Rattle.ncl_base.proofs.Places.{at_map, at_of_map}
 
 -- the directions of two lists of nets, the inputs before the outputs
 abbrev sides : List ℕ → List ℕ → List Bool

@@ -1,23 +1,6 @@
 -- Banks of one and of two bits that are written out: what is asked of their cells, one by one. And two banks of one bit with a
 -- stage between them.
-use Rattle.std.proofs.Common.{◌≡◌, ◌≢◌, ℕ, zero, suc, ◌+◌, List, [], ◌∷◌, ◌++◌, length, None, Some, refl, subst, arith}
-use Rattle.std.specs.Prelude.{All, Contains, slice_get, codes}
-use Rattle.std.specs.List.{flat_map, range_with_len}
-use Rattle.std.proofs.lemmas.List.Elements.{All-from_recursion}
-use Rattle.ncl_base.proofs.Members.{Member, here, there, Member-from_Contains}
-use Rattle.ncl_gates.specs.declared.kind.Kind.TheVariants.{Th22}
-use Rattle.ncl_gates.specs.declared.cell_kind.CellKind.TheVariants.{Register, Ack}
-use Rattle.ncl_netlist.specs.declared.cell.Cell.{Cell}
-use Rattle.ncl_netlist.specs.declared.ids.NetId.{NetId}
-use Rattle.ncl_netlist.specs.Netlist.{NetlistData, IsNetlist}
-use Rattle.ncl_cell_rules.specs.Origin.{CellAt, IsTreeKind, th22}
-use Rattle.ncl_shape.specs.declared.bank.Bit.{Bit}
-use Rattle.ncl_shape.specs.declared.rails.Rails.{Rails}
-use Rattle.ncl_shape.specs.declared.stage.StageCell.{StageCell}
-use Rattle.ncl_shape.specs.Stage.{StageData, IsStage, Reads}
-use Rattle.ncl_shape.specs.Shape.{Shape}
-use Rattle.ncl_shape.specs.Examples.{net_id, bit, rails, one_bit, with_ports, one_bit_ports, one_bit_pipeline}
-use Rattle.ncl_assembly.specs.Assembled.{WiredBit, WiredBank, HasGate, IsWiredBit, IsWiredBank, IsWiredStage, ReadsAcks, gate_numbers, bank_numbers}
+use Rattle.ncl_assembly.proofs.Terms.{Ack, All, All-from_recursion, Bit, Cell, CellAt, Contains, HasGate, IsNetlist, IsStage, IsTreeKind, IsWiredBank, IsWiredBit, IsWiredStage, List, Member, Member-from_Contains, NetId, NetlistData, None, Rails, Reads, ReadsAcks, Register, Shape, Some, StageCell, StageData, Th22, WiredBank, WiredBit, [], arith, bank_numbers, bit, codes, flat_map, gate_numbers, here, length, net_id, one_bit, one_bit_pipeline, one_bit_ports, rails, range_with_len, refl, slice_get, subst, suc, th22, there, with_ports, zero, ℕ, ◌++◌, ◌+◌, ◌∷◌, ◌≡◌, ◌≢◌}
 use Rattle.ncl_assembly.proofs.AssembledShape.{Shape-from_assembled}
 
 -- a bit by its cells, the rails that it reads and drives, and the net of its acknowledge cell

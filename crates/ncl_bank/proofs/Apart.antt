@@ -1,12 +1,5 @@
 -- Lists whose elements differ, joined.
-use Rattle.std.proofs.Common.{◌≢◌, ℕ, ◌+◌, ◌<◌, List, [], ◌∷◌, ◌++◌, map, get_or, refl, sym, subst, arith}
-use Rattle.std.specs.Prelude.{AllPairs}
-use Rattle.std.specs.List.{range_with_len}
-use Rattle.std.specs.Cmp.Lexicographic.{bytes_decides}
-use Rattle.std.proofs.lemmas.List.FromFn.{get_or-map-range_with_len, length-map-range_with_len}
-use Rattle.std.proofs.lemmas.Map.Made.{AllPairs-from_IsDistinct, IsDistinct-from_AllPairs}
-use Rattle.ncl_base.proofs.Lists.{pairs-tail}
-use Rattle.ncl_netlist.specs.Names.{AllDiffer}
+use Rattle.ncl_bank.proofs.Terms.{AllDiffer, AllPairs, AllPairs-from_IsDistinct, IsDistinct-from_AllPairs, List, [], arith, bytes_decides, get_or, get_or-map-range_with_len, length-map-range_with_len, map, pairs-tail, range_with_len, refl, subst, sym, ℕ, ◌++◌, ◌+◌, ◌<◌, ◌∷◌, ◌≢◌}
 
 -- names that differ, two by two
 abbrev pub AreApart : List (List ℕ) → Type 0

@@ -1,26 +1,5 @@
 -- The cells that are planned for a bank are its parts.
-use Rattle.std.proofs.Common.{◌≡◌, ◌≢◌, ℕ, ◌+◌, ◌-◌, ◌*◌, ◌<◌, ◌≤◌, List, [], ◌∷◌, ◌++◌, length, map, take, drop, get_or, Some, inl, inr, refl, sym, ap, subst, ◌∙◌, arith, append_assoc, length-append}
-use Rattle.std.specs.Prelude.{All, Contains, slice_get}
-use Rattle.std.specs.List.{range_with_len, zip}
-use Rattle.std.proofs.lemmas.List.{map-append, length-map, nil_from_length, take-append-drop, get_or_push, get_or_append_left, get_or_default}
-use Rattle.std.proofs.lemmas.Bool.{cases_lt}
-use Rattle.std.proofs.lemmas.List.FromFn.{length-map-range_with_len}
-use Rattle.std.proofs.lemmas.Option.{slice_get_within, slice_get-get_or}
-use Rattle.std.proofs.lemmas.List.Elements.{All-same, Contains-push, Contains-get_or, Contains-append_right}
-use Rattle.std.proofs.lemmas.Slice.Zip.{length-zip}
-use Rattle.ncl_base.proofs.Members.{Member, here, there, Member-map, member_of_map, Member-append_cases, Contains-from_Member, Member-from_Contains, All-from_members, slice_get-from_Contains}
-use Rattle.ncl_gates.specs.declared.cell_kind.CellKind.TheVariants.{Register, Ack}
-use Rattle.ncl_netlist.specs.declared.parts.NamePair.{NamePair}
-use Rattle.ncl_netlist.specs.declared.parts.PartCell.{PartCell}
-use Rattle.ncl_netlist.specs.Parts.{HasAllPins, input_names, output_name}
-use Rattle.ncl_shape.specs.declared.stage.StageCell.{StageCell}
-use Rattle.ncl_tree.specs.Gates.{GatesData}
-use Rattle.ncl_tree.specs.PartNames.{IsPartName, digits_36, cell_name_of, net_name_of, most_parts}
-use Rattle.ncl_tree.specs.NamePairs.{pair_names, IsFreeOf}
-use Rattle.ncl_tree.proofs.PartNameLaws.{same_cell, cell_is_no_net, cell_name-IsPartName, net_name-IsPartName}
-use Rattle.ncl_bank.specs.declared.parts.BankParts.{BankParts}
-use Rattle.ncl_bank.specs.BankParts.{CanBeBank, AreBankParts, IsTreeCell, TreeReads, bank_pins}
-use Rattle.ncl_bank.specs.BankPlan.{Unnamed, cell_at, named_from, register_with, ack_of, name_at, IsNetOf, tree_cell_of, names_of_nets, IsCompletion}
+use Rattle.ncl_bank.proofs.Terms.{Ack, All, All-from_members, All-same, AreBankParts, BankParts, CanBeBank, Contains, Contains-append_right, Contains-from_Member, Contains-get_or, Contains-push, GatesData, HasAllPins, IsCompletion, IsFreeOf, IsNetOf, IsPartName, IsTreeCell, List, Member, Member-append_cases, Member-from_Contains, Member-map, NamePair, PartCell, Register, Some, StageCell, TreeReads, Unnamed, [], ack_of, ap, append_assoc, arith, bank_pins, cases_lt, cell_at, cell_is_no_net, cell_name-IsPartName, cell_name_of, digits_36, drop, get_or, get_or_append_left, get_or_default, get_or_push, here, inl, input_names, inr, length, length-append, length-map, length-map-range_with_len, length-zip, map, map-append, member_of_map, most_parts, name_at, named_from, names_of_nets, net_name-IsPartName, net_name_of, nil_from_length, output_name, pair_names, range_with_len, refl, register_with, same_cell, slice_get, slice_get-from_Contains, slice_get-get_or, slice_get_within, subst, sym, take, take-append-drop, there, tree_cell_of, zip, ℕ, ◌*◌, ◌++◌, ◌+◌, ◌-◌, ◌<◌, ◌∙◌, ◌∷◌, ◌≡◌, ◌≢◌, ◌≤◌}
 use Rattle.ncl_bank.proofs.Apart.{AreApart, apart_from_differ, differ_from_apart, pairs-range, pairs-right}
 use Rattle.ncl_bank.proofs.BankNets.{length-names_of_nets, root_or_made, nets_apart}
 use Rattle.ncl_bank.proofs.BankPins.{inputs_of, output_of, pins-registers, outputs-registers, inputs-acks, outputs-acks, inputs-tree_cell, pins-tree_cell, outputs-tree}

@@ -1,15 +1,5 @@
 -- The nets that the acknowledge and tree cells of a bank drive, and that all nets of a bank differ.
-use Rattle.std.proofs.Common.{◌≡◌, ◌≢◌, ℕ, ◌+◌, ◌-◌, ◌<◌, ◌≤◌, List, [], ◌∷◌, ◌++◌, length, map, ◌⊎◌, inl, inr, sym, subst, ◌∙◌, arith, length-append}
-use Rattle.std.specs.Prelude.{Contains}
-use Rattle.std.specs.List.{range_with_len}
-use Rattle.std.proofs.lemmas.List.FromFn.{length-map-range_with_len}
-use Rattle.ncl_base.proofs.Members.{Member, here, there, member_cases, member_of_map, Member-append_cases, Contains-from_Member}
-use Rattle.ncl_base.proofs.Lists.{pairs-head, pairs-tail}
-use Rattle.ncl_base.proofs.Tests.{AllPairs-append}
-use Rattle.ncl_tree.specs.PartNames.{net_name_of, digits_36, most_parts}
-use Rattle.ncl_tree.specs.NamePairs.{IsFreeOf}
-use Rattle.ncl_tree.proofs.PartNameLaws.{same_net}
-use Rattle.ncl_bank.specs.BankPlan.{names_of_nets}
+use Rattle.ncl_bank.proofs.Terms.{AllPairs-append, Contains, Contains-from_Member, IsFreeOf, List, Member, Member-append_cases, [], arith, digits_36, here, inl, inr, length, length-append, length-map-range_with_len, map, member_cases, member_of_map, most_parts, names_of_nets, net_name_of, pairs-head, pairs-tail, range_with_len, same_net, subst, sym, there, ℕ, ◌++◌, ◌+◌, ◌-◌, ◌<◌, ◌∙◌, ◌∷◌, ◌≡◌, ◌≢◌, ◌≤◌, ◌⊎◌}
 use Rattle.ncl_bank.proofs.Apart.{AreApart, pairs-range}
 
 module _ (prefix root : List ℕ) (first count : ℕ) (some : 0 < count) where

@@ -1,19 +1,5 @@
 -- What the cells of a bank read and drive.
-use Rattle.std.proofs.Common.{◌≡◌, ℕ, suc, ◌+◌, ◌-◌, ◌<◌, ◌≤◌, List, [], ◌∷◌, ◌++◌, length, map, take, drop, get_or, Some, refl, sym, ap, ◌∙◌, arith}
-use Rattle.std.specs.Prelude.{slice_get, slice_index_or}
-use Rattle.std.specs.List.{zip}
-use Rattle.std.proofs.lemmas.List.{map-append, length-map, length_push, get_or_push, take_at, drop_more, drop_all}
-use Rattle.ncl_gates.specs.declared.kind.Kind.{Kind}
-use Rattle.ncl_gates.specs.declared.cell_kind.CellKind.TheVariants.{Gate}
-use Rattle.ncl_gates.specs.Gate.{arity_of}
-use Rattle.ncl_gates.specs.Cell.{pins_of}
-use Rattle.ncl_netlist.specs.declared.parts.NamePair.{NamePair}
-use Rattle.ncl_shape.specs.declared.stage.StageCell.{StageCell}
-use Rattle.ncl_tree.specs.declared.tree.Family.TheVariants.{All as Conjunctions}
-use Rattle.ncl_tree.specs.GateTree.{IsOfFamily, IsFamilyGate, all_two, all_three, all_four}
-use Rattle.ncl_tree.specs.NamePairs.{pair_list, pair_names}
-use Rattle.ncl_bank.specs.BankParts.{bank_pins}
-use Rattle.ncl_bank.specs.BankPlan.{Unnamed, register_with, ack_of, name_at, nets_of_gate, tree_cell_of}
+use Rattle.ncl_bank.proofs.Terms.{Conjunctions, Gate, IsFamilyGate, IsOfFamily, Kind, List, NamePair, Some, StageCell, Unnamed, [], ack_of, all_four, all_three, all_two, ap, arith, arity_of, bank_pins, drop, drop_all, drop_more, get_or, get_or_push, length, length-map, length_push, map, map-append, name_at, nets_of_gate, pair_list, pair_names, pins_of, refl, register_with, slice_get, slice_index_or, suc, sym, take, take_at, tree_cell_of, zip, ℕ, ◌++◌, ◌+◌, ◌-◌, ◌<◌, ◌∙◌, ◌∷◌, ◌≡◌, ◌≤◌}
 
 -- the names at the input pins of a cell, and the one at its output
 abbrev pub inputs_of : Unnamed → List (List ℕ)

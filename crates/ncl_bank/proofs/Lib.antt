@@ -1,3 +1,4 @@
+mod Terms
 pub mod Apart
 pub mod Named
 pub mod Numbered

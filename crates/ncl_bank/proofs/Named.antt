@@ -1,12 +1,5 @@
 -- Cells that are named by their places.
-use Rattle.std.proofs.Common.{◌≡◌, ℕ, zero, suc, ◌+◌, List, [], ◌∷◌, ◌++◌, length, map, Some, refl, sym, ap, ◌∙◌, arith, append_assoc, length-append}
-use Rattle.std.specs.Prelude.{All, slice_get}
-use Rattle.std.specs.List.{range_with_len}
-use Rattle.std.proofs.lemmas.List.Elements.{All-cons, All-nil}
-use Rattle.ncl_base.proofs.Members.{Member, here, there}
-use Rattle.ncl_netlist.specs.declared.parts.PartCell.{PartCell}
-use Rattle.ncl_tree.specs.PartNames.{cell_name_of}
-use Rattle.ncl_bank.specs.BankPlan.{Unnamed, AddsCells, cell_at, named_from}
+use Rattle.ncl_bank.proofs.Terms.{AddsCells, All, All-cons, All-nil, List, Member, PartCell, Some, Unnamed, [], ap, append_assoc, arith, cell_at, cell_name_of, here, length, length-append, map, named_from, range_with_len, refl, slice_get, suc, sym, there, zero, ℕ, ◌++◌, ◌+◌, ◌∙◌, ◌∷◌, ◌≡◌}
 
 pub named_from-append : (prefix : List ℕ) (place : ℕ) (xs ys : List Unnamed) → named_from prefix place (xs ++ ys) ≡ named_from prefix place xs ++ named_from prefix (place + length xs) ys
 named_from-append prefix place [] ys = ap (λ k. named_from prefix k ys) (omega arith)

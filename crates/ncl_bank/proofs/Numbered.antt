@@ -1,21 +1,5 @@
 -- The completion tree by numbers: its nets are numbered from 0 on, the leaves first.
-use Rattle.std.proofs.Common.{◌≡◌, ℕ, zero, suc, ◌+◌, ◌<◌, List, [], ◌∷◌, ◌++◌, length, map, take, drop, Some, inl, inr, refl, sym, ap, subst, ◌∙◌, arith, length-append}
-use Rattle.std.specs.Prelude.{slice_get}
-use Rattle.std.specs.List.{range_with_len}
-use Rattle.std.proofs.lemmas.List.{append-nil, length-map, length-take-le, map-append}
-use Rattle.std.proofs.lemmas.List.FromFn.{length-range_with_len}
-use Rattle.std.proofs.lemmas.Option.{slice_get_within, get_or_from_slice_get}
-use Rattle.ncl_base.proofs.Growing.{cut_at}
-use Rattle.ncl_base.proofs.Members.{Member, here, there, Member-map, member_of_map}
-use Rattle.ncl_base.proofs.Ranges.{below_of_range}
-use Rattle.ncl_base.proofs.Places.{slice_get-append_left}
-use Rattle.ncl_netlist.specs.declared.ids.NetId.{NetId}
-use Rattle.ncl_shape.specs.declared.stage.StageCell.{StageCell}
-use Rattle.ncl_tree.specs.declared.tree.Family.TheVariants.{All as Conjunctions}
-use Rattle.ncl_tree.specs.Gates.{GatesData}
-use Rattle.ncl_tree.specs.GateTree.{IsFamilyGate}
-use Rattle.ncl_tree.proofs.TreeLaws.{outs_of, IsRead, gates_are_of_family, gate_reads, root_or_read, root_is_last}
-use Rattle.ncl_bank.specs.BankPlan.{nets_below, IsCompletion}
+use Rattle.ncl_bank.proofs.Terms.{Conjunctions, GatesData, IsCompletion, IsFamilyGate, IsRead, List, Member, Member-map, NetId, Some, StageCell, [], ap, append-nil, arith, below_of_range, cut_at, drop, gate_reads, gates_are_of_family, get_or_from_slice_get, here, inl, inr, length, length-append, length-map, length-range_with_len, length-take-le, map, map-append, member_of_map, nets_below, outs_of, range_with_len, refl, root_is_last, root_or_read, slice_get, slice_get-append_left, slice_get_within, subst, suc, sym, take, there, zero, ℕ, ◌++◌, ◌+◌, ◌<◌, ◌∙◌, ◌∷◌, ◌≡◌}
 
 abbrev pub net_at : ℕ → NetId
 net_at number = record { 0 = number }

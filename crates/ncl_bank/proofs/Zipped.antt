@@ -1,18 +1,5 @@
 -- Two lists gone through side by side.
-use Rattle.std.proofs.Common.{◌≡◌, ℕ, ◌+◌, ◌*◌, ◌<◌, ◌≤◌, List, [], ◌∷◌, ◌++◌, length, map, min, take, get_or, sym, ap, subst, ◌∙◌, arith, append_assoc, length-take}
-use Rattle.std.specs.List.{zip, flat_map}
-use Rattle.std.specs.Iterator.Adapters.{zip_first, zip_second}
-use Rattle.std.specs.Slice.Iter.{iter_rest}
-use Rattle.std.specs.declared.iter.Zip.{Zip}
-use Rattle.std.specs.declared.slice.Iter.{Iter}
-use Rattle.std.proofs.lemmas.List.{take_all, take_more, map_more, map-append, length-map}
-use Rattle.std.proofs.lemmas.Slice.Zip.{length-zip, get_or-zip}
-use Rattle.std.proofs.lemmas.Grind.{flat_map-append}
-use Rattle.ncl_netlist.specs.declared.parts.NamePair.{NamePair}
-use Rattle.ncl_netlist.specs.declared.parts.PartCell.{PartCell}
-use Rattle.ncl_shape.specs.declared.stage.StageCell.{StageCell}
-use Rattle.ncl_bank.specs.BankParts.{register_pins}
-use Rattle.ncl_bank.specs.BankPlan.{Unnamed, cell_at, named_from, register_with, ack_of, tree_cell_of}
+use Rattle.ncl_bank.proofs.Terms.{Iter, List, NamePair, PartCell, StageCell, Unnamed, Zip, [], ack_of, ap, append_assoc, arith, cell_at, flat_map, flat_map-append, get_or, get_or-zip, iter_rest, length, length-map, length-take, length-zip, map, map-append, map_more, min, named_from, register_pins, register_with, subst, sym, take, take_all, take_more, tree_cell_of, zip, zip_first, zip_second, ℕ, ◌*◌, ◌++◌, ◌+◌, ◌<◌, ◌∙◌, ◌∷◌, ◌≡◌, ◌≤◌}
 use Rattle.ncl_bank.proofs.Named.{IsAdded, IsAdded-more, length_added}
 
 pub zipped_more : {A B : Type 0} (xs : List A) (ys : List B) (n : ℕ) (x : A) (y : B) → n < length xs → n < length ys → x ≡ get_or xs n x → y ≡ get_or ys n y → take (n + 1) (zip xs ys) ≡ take n (zip xs ys) ++ (x, y) ∷ []

@@ -1,15 +1,5 @@
 -- A text has one answer.
-use Rattle.std.proofs.Common.{◌≡◌, ℕ, ◌+◌, ◌<◌, List, length, take, Some, refl, sym, ap, ◌∙◌, subst, arith, inl, inr, slice_get, ⊎_elim}
-use Rattle.std.specs.Prelude.{All}
-use Rattle.std.specs.Option.{option_map}
-use Rattle.std.proofs.lemmas.Bool.{cases_lt}
-use Rattle.std.proofs.lemmas.List.{length-take, get_or-take}
-use Rattle.std.proofs.lemmas.Option.{slice_get_within, get_or_from_slice_get}
-use Rattle.ncl_blif.specs.declared.fault.BlifFault.{BlifFault}
-use Rattle.ncl_blif.specs.declared.fault.BlifFault.TheVariants.{Cycle}
-use Rattle.ncl_blif.specs.declared.model.Model.{Model}
-use Rattle.ncl_blif.specs.Named.{NamedModel, NamedCover}
-use Rattle.ncl_blif.specs.Answer.{IsFirstCycle, IsFaultless, IsModelFault, no_bits, undriven, cycle, IsFirstModelFault, IsRead, IsRefused, line, model, width}
+use Rattle.ncl_blif.proofs.Terms.{All, BlifFault, Cycle, IsFaultless, IsFirstCycle, IsFirstModelFault, IsModelFault, IsRead, IsRefused, List, Model, NamedCover, NamedModel, Some, ap, arith, cases_lt, cycle, get_or-take, get_or_from_slice_get, inl, inr, length, length-take, line, model, no_bits, option_map, refl, slice_get, slice_get_within, subst, sym, take, undriven, width, ℕ, ⊎_elim, ◌+◌, ◌<◌, ◌∙◌, ◌≡◌}
 
 -- the first cycle stands in one line
 pub one_first_cycle : (m : NamedModel) (a b : ℕ) → IsFirstCycle m a → IsFirstCycle m b → a ≡ b

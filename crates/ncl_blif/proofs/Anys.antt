@@ -1,7 +1,5 @@
 -- Tests of some element of a list.
-use Rattle.std.proofs.Common.{◌≡◌, ℕ, ◌<◌, Bool, true, false, ◌||◌, List, [], ◌∷◌, length, map, get_or, cond, Some, None, refl, ap, arith, zero, suc}
-use Rattle.std.specs.List.{list_any, find}
-use Rattle.std.proofs.lemmas.Bool.{or_parts}
+use Rattle.ncl_blif.proofs.Terms.{Bool, List, None, Some, [], ap, arith, cond, false, find, get_or, length, list_any, map, or_parts, refl, suc, true, zero, ℕ, ◌<◌, ◌||◌, ◌∷◌, ◌≡◌}
 
 pub list_any-map : {X Y : Type 0} (test : Y → Bool) (f : X → Y) (xs : List X) → list_any test (map f xs) ≡ list_any (λ x. test (f x)) xs
 list_any-map test f [] = refl

@@ -1,20 +1,6 @@
 -- What parts say, one input or cover after another.
-use Rattle.std.proofs.Common.{None, ◌≡◌, ℕ, ◌+◌, ◌<◌, Bool, true, false, ◌||◌, cond, List, [], ◌∷◌, ◌++◌, length, map, take, drop, get_or, refl, sym, ap, ◌∙◌, append_assoc, Option, Some}
-use Rattle.std.proofs.lemmas.Bool.{or_left}
-use Rattle.std.proofs.lemmas.List.{map_push, length-map}
-use Rattle.std.proofs.lemmas.List.Folds.{list_any-append}
-use Rattle.std.specs.List.{list_any}
-use Rattle.std.specs.Option.{is_some}
-use Rattle.std.specs.Str.{bytes_eq}
-use Rattle.ncl_base.proofs.Growing.{cut_at}
-use Rattle.ncl_blif.specs.declared.draft_body.DraftBody.{DraftBody}
-use Rattle.ncl_blif.specs.declared.drivers.Driver.{Driver}
-use Rattle.ncl_blif.specs.declared.drivers.Driver.TheVariants.{Input, Cover}
-use Rattle.ncl_blif.specs.Named.{NamedModel, NamedCover, drivers_of}
-use Rattle.ncl_blif.specs.Numbered.{is_driven, signal_number}
-use Rattle.ncl_blif.specs.Drivers.{driver_at, driver_among}
-use Rattle.ncl_blif.specs.LineFaults.{has_twins}
-use Rattle.ncl_blif.specs.Body.{said_by, AreDriversKept}
+use Rattle.ncl_blif.proofs.Terms.{AreDriversKept, Bool, DraftBody, Driver, Input, List, NamedCover, NamedModel, None, Option, Some, [], ap, append_assoc, bytes_eq, cond, cut_at, driver_among, driver_at, drivers_of, drop, false, get_or, has_twins, is_driven, is_some, length, length-map, list_any, list_any-append, map, map_push, or_left, refl, said_by, signal_number, sym, take, true, ℕ, ◌++◌, ◌+◌, ◌<◌, ◌||◌, ◌∙◌, ◌∷◌, ◌≡◌}
+use Rattle.ncl_blif.specs.declared.drivers.Driver.TheVariants.{Cover}
 use Rattle.ncl_blif.proofs.DriverPlaces.{among-tells, among-input, among-cover, once-input, once-cover, input-first, cover-first}
 use Rattle.ncl_blif.proofs.Twins.{twins-middle}
 

@@ -1,17 +1,7 @@
 -- What a part says, by its command.
-use Rattle.std.proofs.Common.{◌≡◌, ℕ, ◌≤◌, Bool, true, false, ◌||◌, List, [], ◌∷◌, ◌++◌, length, map, refl, sym, ap, ◌∙◌, arith, append_assoc, codes, slice_get, unwrap_or}
-use Rattle.std.proofs.lemmas.List.{append-nil, map_push}
-use Rattle.std.specs.Str.{bytes_eq}
-use Rattle.ncl_blif.specs.declared.command.Command.{Command}
-use Rattle.ncl_blif.specs.declared.command.Command.TheVariants.{Model, Inputs, Outputs, Names, End}
-use Rattle.ncl_blif.specs.Commands.{field_of}
-use Rattle.ncl_blif.specs.Line.{LineData}
-use Rattle.ncl_blif.specs.Parts.{PartData, first_field, is_names, is_command}
-use Rattle.std.specs.List.{list_any}
-use Rattle.ncl_blif.specs.LineFaults.{has_twins}
-use Rattle.ncl_blif.specs.Numbered.{is_driven}
+use Rattle.ncl_blif.proofs.Terms.{Bool, Command, End, Inputs, LineData, List, NamedCover, NamedModel, Names, Outputs, PartData, [], ap, append-nil, append_assoc, arith, bytes_eq, codes, cover_of, covers_said, drivers_of, false, field_of, first_field, has_twins, inputs_said, is_command, is_driven, is_names, later_fields, length, list_any, map, map_push, outputs_said, refl, slice_get, sym, true, unwrap_or, ℕ, ◌++◌, ◌||◌, ◌∙◌, ◌∷◌, ◌≡◌, ◌≤◌}
+use Rattle.ncl_blif.specs.declared.command.Command.TheVariants.{Model}
 use Rattle.ncl_blif.proofs.Twins.{twins-middle}
-use Rattle.ncl_blif.specs.Named.{NamedModel, NamedCover, drivers_of, later_fields, cover_of, inputs_said, outputs_said, covers_said}
 
 -- the model with what a part says added
 abbrev pub with_part : NamedModel → PartData → NamedModel

@@ -1,12 +1,5 @@
 -- Models one after another compute one function.
-use Rattle.std.proofs.Common.{◌≡◌, Bool, List, [], ◌∷◌, length, map, refl, sym, ◌∙◌, subst}
-use Rattle.std.specs.Prelude.{Contains}
-use Rattle.std.specs.List.{AllByRecursion}
-use Rattle.std.proofs.lemmas.List.{length-map}
-use Rattle.std.proofs.lemmas.List.Elements.{All-contains}
-use Rattle.ncl_blif.specs.declared.model.Model.{Model}
-use Rattle.ncl_blif.specs.Model.{signals_of, IsModel, AreJoined}
-use Rattle.ncl_blif.specs.Meaning.{Gives, Computes, width_of}
+use Rattle.ncl_blif.proofs.Terms.{All-contains, AllByRecursion, AreJoined, Bool, Computes, Contains, Gives, IsModel, List, Model, [], length, length-map, map, refl, signals_of, subst, sym, width_of, ◌∙◌, ◌∷◌, ◌≡◌}
 use Rattle.ncl_blif.proofs.Fitting as fitting
 use Rattle.ncl_blif.proofs.Fitting.{map-agree_on}
 

@@ -1,12 +1,5 @@
 -- The fields of lines without the lines, and what the counts of the lines make of them.
-use Rattle.std.proofs.Common.{◌≡◌, ℕ, ◌+◌, ◌<◌, ◌≤◌, ltb, cond, List, [], ◌∷◌, ◌++◌, length, map, take, drop, get_or, filter, refl, sym, ap, ◌∙◌, subst, arith}
-use Rattle.std.specs.List.{flat_map}
-use Rattle.std.proofs.lemmas.List.{append-nil, drop_more, get_or-map, length-map, take_more, take_all, drop-drop, length-drop, length-append}
-use Rattle.std.proofs.Math.Seq.{take-append_seam, drop-append_seam}
-use Rattle.ncl_blif.specs.declared.line.Count.{Count}
-use Rattle.ncl_blif.specs.Line.{LineData}
-use Rattle.ncl_blif.specs.Lines.{lines_of}
-use Rattle.ncl_blif.specs.Counted.{count_of, AreCounted}
+use Rattle.ncl_blif.proofs.Terms.{AreCounted, Count, LineData, List, [], ap, append-nil, arith, cond, count_of, drop, drop-append_seam, drop-drop, drop_more, filter, flat_map, get_or, get_or-map, length, length-append, length-drop, length-map, lines_of, ltb, map, refl, subst, sym, take, take-append_seam, take_all, take_more, ℕ, ◌++◌, ◌+◌, ◌<◌, ◌∙◌, ◌∷◌, ◌≡◌, ◌≤◌}
 use Rattle.ncl_blif.proofs.TextLines.{numbered}
 
 -- the fields of lines, one line after another

@@ -1,14 +1,5 @@
 -- A text says no more models than it has bytes.
-use Rattle.std.proofs.Common.{ℕ, ◌≤◌, Bool, true, false, not, cond, List, [], ◌∷◌, ◌++◌, length, sym, subst, arith}
-use Rattle.std.specs.List.{take_while}
-use Rattle.std.proofs.lemmas.List.{length-map}
-use Rattle.std.proofs.lemmas.List.Sums.{take_while-cons}
-use Rattle.ncl_base.proofs.Growing.{length-le-sum_by}
-use Rattle.ncl_blif.specs.Line.{LineData}
-use Rattle.ncl_blif.specs.Lines.{lines_of}
-use Rattle.ncl_blif.specs.Parts.{PartData, is_row, begins_model, parts_of, up_to_model, named_sections, unnamed_section, sections_of}
-use Rattle.ncl_blif.specs.Named.{named_model}
-use Rattle.ncl_blif.specs.Answer.{models_said}
+use Rattle.ncl_blif.proofs.Terms.{Bool, LineData, List, PartData, [], arith, begins_model, cond, false, is_row, length, length-le-sum_by, length-map, lines_of, models_said, named_model, named_sections, not, parts_of, sections_of, subst, sym, take_while, take_while-cons, true, unnamed_section, up_to_model, ℕ, ◌++◌, ◌∷◌, ◌≤◌}
 use Rattle.ncl_blif.proofs.FieldSizes.{share, lines_of-size}
 
 abbrev goes_on : PartData → Bool

@@ -1,18 +1,5 @@
 -- The graph of the covers has the paths of the dependencies.
-use Rattle.std.proofs.Common.{◌≡◌, ℕ, ◌+◌, ◌<◌, ◌^◌, Bool, true, false, cond, List, [], ◌∷◌, length, map, get_or, Some, refl, sym, ap, ◌∙◌, subst, arith, ◌==◌, suc}
-use Rattle.std.specs.Prelude.{Contains, All}
-use Rattle.std.specs.List.{position_from, filter_map}
-use Rattle.std.proofs.lemmas.Bool.{eqb-true, eq-eqb}
-use Rattle.std.proofs.lemmas.Simd.{map-map}
-use Rattle.std.proofs.lemmas.List.{length-map, get_or-map, get_or_default}
-use Rattle.std.proofs.lemmas.List.Elements.{All-map, All-from_recursion, Contains-get_or}
-use Rattle.ncl_base.proofs.Growing.{position_from-found, All-filter_map, Contains-filter_map, Contains-filter_map_of}
-use Rattle.ncl_blif.specs.declared.model.Cover.{Cover}
-use Rattle.ncl_blif.specs.declared.model.Model.{Model}
-use Rattle.ncl_blif.specs.Model.{Depends, reads, through}
-use Rattle.ncl_blif.specs.Dependence.{driver_place, dependency_graph}
-use Rattle.ncl_blif.specs.Numbered.{without_rows}
-use Rattle.ncl_graph.specs.Graph.{Leads, arc, further, successors, IsGraph}
+use Rattle.ncl_blif.proofs.Terms.{All, All-filter_map, All-from_recursion, All-map, Bool, Contains, Contains-filter_map, Contains-filter_map_of, Contains-get_or, Cover, Depends, IsGraph, Leads, List, Model, Some, [], ap, arc, arith, cond, dependency_graph, driver_place, eq-eqb, eqb-true, false, filter_map, further, get_or, get_or-map, get_or_default, length, length-map, map, map-map, position_from, position_from-found, reads, refl, subst, suc, successors, sym, through, true, without_rows, ℕ, ◌+◌, ◌<◌, ◌==◌, ◌^◌, ◌∙◌, ◌∷◌, ◌≡◌}
 
 -- the first place that passes is one, and passes
 pub position_from-passes : {X : Type 0} (test : X → Bool) (i : ℕ) (xs : List X) (k : ℕ) → position_from test i xs ≡ Some k → (n : ℕ) × (k ≡ i + n) × (n < length xs) × ((d : X) → test (get_or xs n d) ≡ true)

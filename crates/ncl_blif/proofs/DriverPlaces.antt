@@ -1,17 +1,6 @@
 -- What drives a signal, by the places of the inputs and of the covers' signals.
-use Rattle.std.proofs.Common.{◌≡◌, ℕ, Bool, true, false, ◌||◌, ltb, cond, List, [], ◌∷◌, ◌++◌, length, refl, sym, ap, ◌∙◌, append_assoc, Option, Some, None, ◌+◌, ◌<◌, subst}
-use Rattle.std.proofs.lemmas.Bool.{or_parts, or_from, cond-false, ltb-true, cond-true}
-use Rattle.std.proofs.lemmas.Slice.Eq.{bytes_eq-Decides}
-use Rattle.std.proofs.lemmas.List.{append-nil}
-use Rattle.std.proofs.lemmas.List.Folds.{list_any-append}
-use Rattle.std.specs.List.{list_any, position, position_or_len}
-use Rattle.std.specs.Option.{option_or, option_map, is_some}
-use Rattle.std.specs.Str.{bytes_eq}
-use Rattle.std.specs.Cmp.Lexicographic.{nat_list_eq_equiv}
-use Rattle.ncl_blif.specs.declared.drivers.Driver.{Driver}
-use Rattle.ncl_blif.specs.declared.drivers.Driver.TheVariants.{Input, Cover}
-use Rattle.ncl_blif.specs.Drivers.{driver_among}
-use Rattle.ncl_blif.specs.LineFaults.{has_twins}
+use Rattle.ncl_blif.proofs.Terms.{Bool, Driver, Input, List, None, Option, Some, [], ap, append-nil, append_assoc, bytes_eq, bytes_eq-Decides, cond, cond-false, cond-true, driver_among, false, has_twins, is_some, length, list_any, list_any-append, ltb, ltb-true, nat_list_eq_equiv, option_map, option_or, or_from, or_parts, position, position_or_len, refl, subst, sym, true, ℕ, ◌++◌, ◌+◌, ◌<◌, ◌||◌, ◌∙◌, ◌∷◌, ◌≡◌}
+use Rattle.ncl_blif.specs.declared.drivers.Driver.TheVariants.{Cover}
 use Rattle.ncl_blif.proofs.Places.{any-place, position-push, place-append}
 use Rattle.ncl_blif.proofs.Twins.{twins-middle}
 

@@ -1,16 +1,5 @@
 -- How many fields a line has, and how long they are: no more than its text.
-use Rattle.std.proofs.Common.{◌≡◌, ℕ, ◌+◌, ◌-◌, ◌<◌, ◌≤◌, Bool, true, false, eqb, ltb, cond, List, [], ◌∷◌, ◌++◌, length, map, take, filter, get_or, sum_by, max, refl, sym, ap, ◌∙◌, arith, inl, inr}
-use Rattle.std.proofs.lemmas.Bool.{ltb-true}
-use Rattle.std.proofs.lemmas.List.{length-append, length-take}
-use Rattle.std.proofs.lemmas.List.Elements.{filter-append}
-use Rattle.std.proofs.lemmas.List.Sums.{sum_by-cons, sum_by_push, length-filter, count_by-le-length}
-use Rattle.std.specs.List.{slice_split, onto_first, position_or_len}
-use Rattle.std.specs.Str.Lines.{lines, lines_of_parts, strip_carriage_return}
-use Rattle.ncl_base.proofs.Growing.{last_of}
-use Rattle.ncl_blif.specs.Line.{LineData}
-use Rattle.ncl_base.specs.TextLines.{is_blank, fields_of, NumberedText}
-use Rattle.ncl_blif.specs.Lines.{uncommented, is_continued, blank_at_end, put_before, joined, in_fields, lines_of}
-use Rattle.ncl_blif.specs.Named.{last_field, front_fields, pattern_of}
+use Rattle.ncl_blif.proofs.Terms.{Bool, LineData, List, NumberedText, [], ap, arith, blank_at_end, cond, count_by-le-length, eqb, false, fields_of, filter, filter-append, front_fields, get_or, in_fields, inl, inr, is_blank, is_continued, joined, last_field, last_of, length, length-append, length-filter, length-take, lines, lines_of, lines_of_parts, ltb, ltb-true, map, max, onto_first, pattern_of, position_or_len, put_before, refl, slice_split, strip_carriage_return, sum_by, sum_by-cons, sum_by_push, sym, take, true, uncommented, ℕ, ◌++◌, ◌+◌, ◌-◌, ◌<◌, ◌∙◌, ◌∷◌, ◌≡◌, ◌≤◌}
 use Rattle.ncl_blif.proofs.Names.{last_field-end, front_fields-end}
 
 -- how long some texts are together

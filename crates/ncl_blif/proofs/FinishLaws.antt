@@ -1,19 +1,5 @@
 -- The faults of a model by names, and those of its graph.
-use Rattle.std.proofs.Common.{◌≡◌, ℕ, ◌<◌, List, length, get_or, Some, sym, ap, ◌∙◌, subst, arith}
-use Rattle.std.specs.List.{IsDistinct}
-use Rattle.std.specs.Str.{bytes_eq}
-use Rattle.std.proofs.lemmas.List.{length-map, get_or-map}
-use Rattle.std.proofs.lemmas.Simd.{map-map}
-use Rattle.std.proofs.lemmas.Option.{slice_get-get_or, slice_get_within, get_or_from_slice_get}
-use Rattle.ncl_graph.specs.Graph.{IsOnCycle}
-use Rattle.ncl_blif.specs.declared.model.Cover.{Cover}
-use Rattle.ncl_blif.specs.Named.{NamedModel, NamedCover, drivers_of}
-use Rattle.ncl_blif.specs.Numbered.{signal_number, numbered_cover, without_rows, rowless_covers, numbered_model}
-use Rattle.ncl_blif.specs.Model.{Depends}
-use Rattle.ncl_blif.specs.Dependence.{dependency_graph}
-use Rattle.std.specs.Option.{option_map}
-use Rattle.ncl_graph.proofs.Ranking.{leads_within}
-use Rattle.ncl_blif.specs.Answer.{IsCyclic, IsFirstCycle}
+use Rattle.ncl_blif.proofs.Terms.{Cover, Depends, IsCyclic, IsDistinct, IsFirstCycle, IsOnCycle, List, NamedCover, NamedModel, Some, ap, arith, bytes_eq, dependency_graph, drivers_of, get_or, get_or-map, get_or_from_slice_get, leads_within, length, length-map, map-map, numbered_cover, numbered_model, option_map, rowless_covers, signal_number, slice_get-get_or, slice_get_within, subst, sym, without_rows, ℕ, ◌<◌, ◌∙◌, ◌≡◌}
 use Rattle.ncl_blif.proofs.DependenceLaws.{out_at, graph-without_rows, Depends-from_Leads, Leads-from_Depends}
 use Rattle.ncl_blif.proofs.NumberedLaws.{no_cover, no_numbers, OutsDiffer-numbered}
 

@@ -1,20 +1,7 @@
 -- Exactly one assignment fits.
-use Rattle.std.proofs.Common.{◌≡◌, ◌≢◌, ℕ, ◌+◌, ◌<◌, ◌^◌, ◌⊎◌, Bool, true, false, cond, List, [], ◌∷◌, ◌++◌, length, map, get_or, refl, sym, ap, ◌∙◌, subst, inl, inr, ⊎_elim, arith, nat_eq, suc}
-use Rattle.std.specs.Prelude.{Contains, All}
-use Rattle.std.specs.List.{range_with_len, filter_map}
-use Rattle.std.proofs.lemmas.Bool.{cases_lt, eq-eqb, ne_eqb, false≢true}
-use Rattle.std.proofs.lemmas.List.{length-map, get_or-map, get_or_default, length-append, append_assoc, append-nil, get_or_append_left, get_or-append-add}
-use Rattle.std.proofs.lemmas.List.Elements.{All-contains, Contains-get_or, Contains-append_left, Contains-append_right, Contains-append_cases, Contains-push_cases}
-use Rattle.std.proofs.lemmas.Map.Keys.{apart_from_distinct}
-use Rattle.ncl_graph.specs.Graph.{successors, IsGraph, IsOnCycle, IsOrder}
-use Rattle.ncl_base.proofs.Growing.{split_at, length-le-sum_by}
-use Rattle.ncl_graph.proofs.Ranking.{leads_within}
+use Rattle.ncl_blif.proofs.Terms.{All, All-contains, Bool, Contains, Contains-append_cases, Contains-append_left, Contains-append_right, Contains-get_or, Contains-push_cases, Cover, Fits, IsGraph, IsModel, IsOnCycle, IsOrder, List, Model, [], ap, apart_from_distinct, append-nil, arith, cases_lt, cond, cover_value, dependency_graph, driver_place, eq-eqb, false, false≢true, filter_map, get_or, get_or-append-add, get_or-map, get_or_append_left, get_or_default, inl, inr, leads_within, length, length-append, length-le-sum_by, length-map, map, nat_eq, ne_eqb, range_with_len, refl, signals_of, split_at, subst, suc, successors, sym, true, weight_of_rows, ℕ, ⊎_elim, ◌++◌, ◌+◌, ◌<◌, ◌^◌, ◌∙◌, ◌∷◌, ◌≡◌, ◌≢◌, ◌⊎◌}
+use Rattle.std.proofs.lemmas.List.{append_assoc}
 use Rattle.ncl_graph.proofs.Orders as orders
-use Rattle.ncl_blif.specs.declared.model.Cover.{Cover}
-use Rattle.ncl_blif.specs.declared.model.Model.{Model}
-use Rattle.ncl_blif.specs.Model.{signals_of, weight_of_rows, IsModel}
-use Rattle.ncl_blif.specs.Dependence.{driver_place, dependency_graph}
-use Rattle.ncl_blif.specs.Meaning.{cover_value, Fits}
 use Rattle.ncl_blif.proofs.DependenceLaws.{OutsDiffer, out_at, arc_of_reads, Depends-from_Leads, IsGraph-dependency_graph}
 
 -- functions that agree on a list give the same

@@ -1,3 +1,4 @@
+mod Terms
 pub mod TextLines
 pub mod Counted
 pub mod TextFields

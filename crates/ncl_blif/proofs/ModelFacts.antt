@@ -1,19 +1,5 @@
 -- What a model by numbers is, where the model by names has no fault.
-use Rattle.std.proofs.Common.{◌≡◌, ℕ, ◌+◌, ◌-◌, ◌<◌, ◌≤◌, true, not, List, ◌++◌, length, map, get_or, None, sym, ap, ◌∙◌, subst, arith, nat_eq, ⊎_elim}
-use Rattle.std.specs.Prelude.{Contains, All}
-use Rattle.std.specs.List.{IsDistinct, range_with_len}
-use Rattle.std.specs.Str.{bytes_eq}
-use Rattle.std.proofs.lemmas.Bool.{cases_lt, ne_eqb, ltb-true, not-false}
-use Rattle.std.proofs.lemmas.List.{length-map, get_or-map, length-append, get_or_append_left, get_or-append-add}
-use Rattle.std.proofs.lemmas.List.Elements.{All-map}
-use Rattle.std.proofs.lemmas.List.FromFn.{get_or-range_with_len, length-range_with_len}
-use Rattle.std.proofs.lemmas.Option.{slice_get-get_or}
-use Rattle.std.proofs.lemmas.Map.Keys.{IsDistinct-from_apart}
-use Rattle.ncl_blif.specs.declared.model.Cover.{Cover}
-use Rattle.ncl_blif.specs.Named.{NamedModel, NamedCover, NamedOutput, drivers_of}
-use Rattle.ncl_blif.specs.Numbered.{is_driven, signal_number, numbered_cover, numbered_model}
-use Rattle.ncl_blif.specs.Model.{Depends, signals_of, IsModel, size_of_model, most_size}
-use Rattle.ncl_blif.specs.Answer.{undriven_line, IsCyclic, IsFaultless}
+use Rattle.ncl_blif.proofs.Terms.{All, All-map, Contains, Cover, Depends, IsCyclic, IsDistinct, IsDistinct-from_apart, IsFaultless, IsModel, List, NamedCover, NamedModel, NamedOutput, None, ap, arith, bytes_eq, cases_lt, drivers_of, get_or, get_or-append-add, get_or-map, get_or-range_with_len, get_or_append_left, is_driven, length, length-append, length-map, length-range_with_len, ltb-true, map, most_size, nat_eq, ne_eqb, not, not-false, numbered_cover, numbered_model, range_with_len, signal_number, signals_of, size_of_model, slice_get-get_or, subst, sym, true, undriven_line, ℕ, ⊎_elim, ◌++◌, ◌+◌, ◌-◌, ◌<◌, ◌∙◌, ◌≡◌, ◌≤◌}
 use Rattle.ncl_blif.proofs.Anys.{each_fails}
 use Rattle.ncl_blif.proofs.DependenceLaws.{driver_of_dependent}
 use Rattle.ncl_blif.proofs.Places.{any-place}

@@ -1,17 +1,5 @@
 -- The models of a text are together no larger than the text.
-use Rattle.std.proofs.Common.{ℕ, ◌+◌, ◌-◌, ◌≤◌, Bool, true, false, not, cond, List, [], ◌∷◌, length, map, sum_by, arith, inl, inr, codes}
-use Rattle.std.proofs.lemmas.Bool.{cases_Bool}
-use Rattle.std.proofs.lemmas.Slice.Eq.{bytes_eq-Decides}
-use Rattle.std.proofs.lemmas.List.{length-append, length-take, length-drop, length-map}
-use Rattle.std.proofs.lemmas.List.Sums.{sum_by-cons, sum_by-append, take_while-cons}
-use Rattle.std.specs.List.{take_while, flat_map}
-use Rattle.ncl_blif.specs.declared.model.Lit.{Lit}
-use Rattle.ncl_blif.specs.Line.{LineData}
-use Rattle.ncl_blif.specs.Lines.{lines_of}
-use Rattle.ncl_blif.specs.Parts.{PartData, first_field, is_row, is_inputs, is_outputs, is_names, parts_of, begins_model, up_to_model, named_sections, unnamed_section, sections_of}
-use Rattle.ncl_blif.specs.Model.{weight_of_rows}
-use Rattle.ncl_blif.specs.Named.{NamedCover, NamedOutput, later_fields, cover_ins, lit_of, lits_of, pattern_of, cover_of, inputs_said, outputs_said, covers_said, named_model, drivers_of, size_of_named}
-use Rattle.ncl_blif.specs.Answer.{models_said}
+use Rattle.ncl_blif.proofs.Terms.{Bool, LineData, List, Lit, NamedCover, NamedOutput, PartData, [], arith, begins_model, bytes_eq-Decides, cases_Bool, codes, cond, cover_ins, cover_of, covers_said, drivers_of, false, first_field, flat_map, inl, inputs_said, inr, is_inputs, is_names, is_outputs, is_row, later_fields, length, length-append, length-drop, length-map, length-take, lines_of, lit_of, lits_of, map, models_said, named_model, named_sections, not, outputs_said, parts_of, pattern_of, sections_of, size_of_named, sum_by, sum_by-append, sum_by-cons, take_while, take_while-cons, true, unnamed_section, up_to_model, weight_of_rows, ℕ, ◌+◌, ◌-◌, ◌∷◌, ◌≤◌}
 use Rattle.ncl_blif.proofs.FieldSizes.{share, lines_of-size}
 
 -- a part's share: those of its lines

@@ -1,7 +1,5 @@
 -- A list that one function gives so far, and another from there on.
-use Rattle.std.proofs.Common.{◌≡◌, ℕ, ◌+◌, ◌<◌, List, [], ◌∷◌, ◌++◌, length, map, drop, get_or, slice_set, sym, ap, ◌∙◌, append_assoc}
-use Rattle.std.proofs.lemmas.List.{drop_more, set_at, length-map, map-append}
-use Rattle.std.proofs.Math.Seq.{get_or-append_seam}
+use Rattle.ncl_blif.proofs.Terms.{List, [], ap, append_assoc, drop, drop_more, get_or, get_or-append_seam, length, length-map, map, map-append, set_at, slice_set, sym, ℕ, ◌++◌, ◌+◌, ◌<◌, ◌∙◌, ◌∷◌, ◌≡◌}
 
 next_at : {X : Type 0} (all : List X) (place : ℕ) (x : X) → place < length all → x ≡ get_or all place x → drop place all ≡ x ∷ drop (place + 1) all
 next_at all place x within at = drop_more all place x within ∙ ap (λ y. y ∷ drop (place + 1) all) (sym at)

@@ -1,8 +1,5 @@
 -- The fields of a line, by the last of them.
-use Rattle.std.proofs.Common.{◌≡◌, ℕ, ◌-◌, ◌≤◌, List, [], ◌∷◌, ◌++◌, length, refl, arith, Option, Some, None}
-use Rattle.std.proofs.lemmas.List.{take-append-le, length-append, take_all}
-use Rattle.std.specs.List.{last_or}
-use Rattle.ncl_blif.specs.Named.{last_field, front_fields}
+use Rattle.ncl_blif.proofs.Terms.{List, None, Option, Some, [], arith, front_fields, last_field, last_or, length, length-append, refl, take-append-le, take_all, ℕ, ◌++◌, ◌-◌, ◌∷◌, ◌≡◌, ◌≤◌}
 
 last_or-end : {X : Type 0} (before : Option X) (xs : List X) (x : X) → last_or before (xs ++ x ∷ []) ≡ Some x
 last_or-end before [] x = refl

@@ -1,16 +1,5 @@
 -- No text is refused for want of memory.
-use Rattle.std.proofs.Common.{◌≡◌, ℕ, ◌+◌, Bool, true, false, not, cond, List, [], ◌∷◌, ◌++◌, length, Option, Some, None, refl, ap, ◌∙◌}
-use Rattle.std.specs.List.{flat_map}
-use Rattle.std.specs.Option.{option_or}
-use Rattle.std.specs.Str.{bytes_eq}
-use Rattle.ncl_blif.specs.declared.fault.BlifFault.{BlifFault}
-use Rattle.ncl_blif.specs.declared.fault.BlifFault.TheVariants.{Syntax, MixedCover, Memory as OutOfMemory}
-use Rattle.ncl_blif.specs.Line.{LineData}
-use Rattle.ncl_blif.specs.Lines.{lines_of}
-use Rattle.ncl_blif.specs.Parts.{PartData, is_row, is_command, is_names, parts_of, sections_of}
-use Rattle.ncl_blif.specs.Named.{NamedModel, last_field, cover_ins}
-use Rattle.ncl_blif.specs.LineFaults.{has_twins, signals_driven, is_malformed, is_row_of, row_fault, first_row_fault, head_fault, rows_fault, first_part_fault, first_section_fault, first_line_fault}
-use Rattle.ncl_blif.specs.Answer.{IsModelFault, no_bits, undriven, cycle, IsRefused, line, model, width}
+use Rattle.ncl_blif.proofs.Terms.{BlifFault, Bool, IsModelFault, IsRefused, LineData, List, MixedCover, NamedModel, None, Option, OutOfMemory, PartData, Some, Syntax, [], ap, bytes_eq, cond, cover_ins, cycle, false, first_line_fault, first_part_fault, first_row_fault, first_section_fault, flat_map, has_twins, head_fault, is_command, is_malformed, is_names, is_row, is_row_of, last_field, length, line, lines_of, model, no_bits, not, option_or, parts_of, refl, row_fault, rows_fault, sections_of, signals_driven, true, undriven, width, ℕ, ◌++◌, ◌+◌, ◌∙◌, ◌∷◌, ◌≡◌}
 
 -- want of memory breaks no line
 abbrev NotMemory : Option BlifFault → Type 0

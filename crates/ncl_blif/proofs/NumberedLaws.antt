@@ -1,22 +1,5 @@
 -- The numbers of signals that go by names.
-use Rattle.std.proofs.Common.{◌≡◌, ℕ, ◌+◌, ◌<◌, Bool, true, false, not, List, [], ◌∷◌, length, map, get_or, Option, Some, None, refl, sym, ap, ◌∙◌, subst, arith}
-use Rattle.std.specs.Prelude.{Contains, All}
-use Rattle.std.specs.List.{IsDistinct, AllByRecursion, list_any, position_or_len, find}
-use Rattle.std.specs.Option.{option_map}
-use Rattle.std.specs.Str.{bytes_eq}
-use Rattle.std.specs.Cmp.Lexicographic.{nat_list_eq_equiv}
-use Rattle.std.proofs.lemmas.Bool.{or_parts, not-false}
-use Rattle.std.proofs.lemmas.List.{length-map, get_or-map, get_or-append-add, length-append}
-use Rattle.std.proofs.lemmas.List.Elements.{Contains-get_or, Contains-append_right}
-use Rattle.std.proofs.lemmas.List.Sums.{position_or_len_is}
-use Rattle.std.proofs.lemmas.Map.Keys.{apart_from_distinct, IsDistinct-cons, IsDistinct-from_apart}
-use Rattle.ncl_blif.specs.LineFaults.{has_twins}
-use Rattle.std.proofs.lemmas.Map.Views.{list_any-from_Contains}
-use Rattle.ncl_blif.specs.declared.model.Cover.{Cover}
-use Rattle.ncl_blif.specs.Named.{NamedModel, NamedCover, drivers_of}
-use Rattle.ncl_blif.specs.Numbered.{is_driven, signal_number, numbered_cover, numbered_model}
-use Rattle.ncl_blif.specs.Named.{NamedOutput}
-use Rattle.ncl_blif.specs.Answer.{lesser, undriven_line, reads_undriven}
+use Rattle.ncl_blif.proofs.Terms.{All, AllByRecursion, Bool, Contains, Contains-append_right, Contains-get_or, Cover, IsDistinct, IsDistinct-cons, IsDistinct-from_apart, List, NamedCover, NamedModel, NamedOutput, None, Option, Some, [], ap, apart_from_distinct, arith, bytes_eq, drivers_of, false, find, get_or, get_or-append-add, get_or-map, has_twins, is_driven, length, length-append, length-map, lesser, list_any, list_any-from_Contains, map, nat_list_eq_equiv, not, not-false, numbered_cover, numbered_model, option_map, or_parts, position_or_len, position_or_len_is, reads_undriven, refl, signal_number, subst, sym, true, undriven_line, ℕ, ◌+◌, ◌<◌, ◌∙◌, ◌∷◌, ◌≡◌}
 use Rattle.ncl_blif.proofs.Anys.{find-none}
 use Rattle.ncl_blif.proofs.DependenceLaws.{OutsDiffer, out_at}
 

@@ -1,15 +1,5 @@
 -- Where no line is broken, no signal of a model has two drivers.
-use Rattle.std.proofs.Common.{◌≡◌, Bool, true, false, not, cond, List, [], ◌∷◌, ◌++◌, map, Some, None, refl, sym, ap, ◌∙◌, append_assoc}
-use Rattle.std.specs.Prelude.{All}
-use Rattle.std.specs.List.{flat_map, AllByRecursion}
-use Rattle.std.proofs.lemmas.List.{append-nil}
-use Rattle.std.proofs.lemmas.List.Elements.{All-from_recursion}
-use Rattle.ncl_base.proofs.Tests.{option_or-none}
-use Rattle.ncl_blif.specs.declared.fault.BlifFault.{BlifFault}
-use Rattle.ncl_blif.specs.Line.{LineData}
-use Rattle.ncl_blif.specs.Parts.{PartData, is_row, is_command, parts_of, sections_of}
-use Rattle.ncl_blif.specs.Named.{NamedModel, drivers_of, named_model}
-use Rattle.ncl_blif.specs.LineFaults.{has_twins, signals_driven, is_malformed, head_fault, rows_fault, part_fault, first_part_fault, first_section_fault, first_line_fault}
+use Rattle.ncl_blif.proofs.Terms.{All, All-from_recursion, AllByRecursion, BlifFault, Bool, LineData, List, NamedModel, None, PartData, Some, [], ap, append-nil, append_assoc, cond, drivers_of, false, first_line_fault, first_part_fault, first_section_fault, flat_map, has_twins, head_fault, is_command, is_malformed, is_row, map, named_model, not, option_or-none, part_fault, parts_of, refl, rows_fault, sections_of, signals_driven, sym, true, ◌++◌, ◌∙◌, ◌∷◌, ◌≡◌}
 use Rattle.ncl_blif.proofs.RowsFit.{fails_then}
 use Rattle.ncl_blif.proofs.PartSteps.{named-same}
 

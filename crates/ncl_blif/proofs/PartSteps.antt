@@ -1,18 +1,5 @@
 -- Parts of a model, one after another.
-use Rattle.std.proofs.Common.{◌≡◌, ℕ, ◌+◌, ◌<◌, ◌≤◌, Bool, true, false, ◌||◌, cond, List, [], ◌∷◌, ◌++◌, length, map, take, drop, get_or, refl, sym, ap, ◌∙◌, arith, append_assoc, Some, None, subst, codes}
-use Rattle.std.proofs.lemmas.List.{take_more, take_all, drop_more, drop_all, append-nil, length-append}
-use Rattle.std.proofs.lemmas.List.Concat.{flat_map-append}
-use Rattle.std.proofs.lemmas.List.Folds.{list_any-append, length-flat_map-take}
-use Rattle.std.proofs.lemmas.Slice.Eq.{bytes_eq-Decides}
-use Rattle.std.specs.List.{list_any, flat_map}
-use Rattle.std.specs.Str.{bytes_eq}
-use Rattle.std.specs.Option.{option_or}
-use Rattle.ncl_blif.specs.declared.fault.BlifFault.{BlifFault}
-use Rattle.ncl_blif.specs.declared.fault.BlifFault.TheVariants.{TwoDrivers}
-use Rattle.ncl_blif.specs.Line.{LineData}
-use Rattle.ncl_blif.specs.Parts.{PartData, first_field, is_names, is_inputs, is_command, is_end}
-use Rattle.ncl_blif.specs.Named.{NamedModel, NamedCover, later_fields, cover_of, cover_out, inputs_said, outputs_said, covers_said, named_model, drivers_of}
-use Rattle.ncl_blif.specs.LineFaults.{has_twins, signals_driven, has_ended, is_malformed, first_part_fault, rows_fault, part_fault}
+use Rattle.ncl_blif.proofs.Terms.{BlifFault, Bool, LineData, List, NamedCover, NamedModel, None, PartData, Some, TwoDrivers, [], ap, append-nil, append_assoc, arith, bytes_eq, bytes_eq-Decides, codes, cond, cover_of, cover_out, covers_said, drivers_of, drop, drop_all, drop_more, false, first_field, first_part_fault, flat_map, flat_map-append, get_or, has_ended, has_twins, inputs_said, is_command, is_end, is_inputs, is_malformed, is_names, later_fields, length, length-append, length-flat_map-take, list_any, list_any-append, map, named_model, option_or, outputs_said, part_fault, refl, rows_fault, signals_driven, subst, sym, take, take_all, take_more, true, ℕ, ◌++◌, ◌+◌, ◌<◌, ◌||◌, ◌∙◌, ◌∷◌, ◌≡◌, ◌≤◌}
 use Rattle.ncl_blif.proofs.Twins.{twins-middle}
 use Rattle.ncl_blif.proofs.Commands.{with_part, or-false}
 

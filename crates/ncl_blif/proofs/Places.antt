@@ -1,11 +1,5 @@
 -- The place of the first of a list that passes a test.
-use Rattle.std.proofs.Common.{◌≡◌, ℕ, suc, ◌+◌, ◌≤◌, Bool, true, false, not, ◌||◌, ltb, cond, List, [], ◌∷◌, ◌++◌, length, refl, sym, ◌∙◌, arith, zero-add, Some, None, inl, inr}
-use Rattle.std.proofs.lemmas.Bool.{lt-ltb, le-ltb, ltb-false, cases_lt}
-use Rattle.std.proofs.lemmas.List.Sums.{prefix_len-le-length}
-use Rattle.std.specs.List.{list_any, position, position_or_len}
-use Rattle.std.specs.Option.{option_or}
-use Rattle.std.proofs.lemmas.Iterator.Adapters.{position_from-zero}
-use Rattle.ncl_base.proofs.Growing.{position_from-push}
+use Rattle.ncl_blif.proofs.Terms.{Bool, List, None, Some, [], arith, cases_lt, cond, false, inl, inr, le-ltb, length, list_any, lt-ltb, ltb, ltb-false, not, option_or, position, position_from-push, position_from-zero, position_or_len, prefix_len-le-length, refl, suc, sym, true, zero-add, ℕ, ◌++◌, ◌+◌, ◌||◌, ◌∙◌, ◌∷◌, ◌≡◌, ◌≤◌}
 
 pub place-none : {X : Type 0} (p : X → Bool) (xs : List X) → None ≡ position p xs → length xs ≡ position_or_len p xs
 place-none p xs e =

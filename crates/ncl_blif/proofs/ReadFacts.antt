@@ -1,23 +1,5 @@
 -- A text that is read says models.
-use Rattle.std.proofs.Common.{◌≡◌, ℕ, ◌+◌, ◌<◌, ◌≤◌, Bool, true, false, not, cond, List, [], ◌∷◌, length, map, get_or, Some, None, refl, sym, ap, ◌∙◌, subst, arith, sum_by, eqb}
-use Rattle.std.specs.Prelude.{All}
-use Rattle.std.specs.List.{take_while}
-use Rattle.std.proofs.lemmas.Bool.{eqb-true}
-use Rattle.std.proofs.lemmas.List.{length-map, length-append}
-use Rattle.std.proofs.lemmas.List.Elements.{All-map}
-use Rattle.std.proofs.lemmas.List.FromFn.{length-range_with_len}
-use Rattle.std.proofs.lemmas.List.Sums.{sum_by-cons, sum_by_more_le, take_while-cons}
-use Rattle.ncl_base.proofs.Growing.{length-le-sum_by}
-use Rattle.ncl_blif.specs.declared.fault.BlifFault.TheVariants.{Syntax}
-use Rattle.ncl_blif.specs.declared.model.Cover.{Cover}
-use Rattle.ncl_blif.specs.Line.{LineData}
-use Rattle.ncl_blif.specs.Lines.{lines_of}
-use Rattle.ncl_blif.specs.Parts.{PartData, is_row, begins_model, up_to_model, named_sections, unnamed_section, parts_of, sections_of}
-use Rattle.ncl_blif.specs.LineFaults.{first_line_fault, first_section_fault}
-use Rattle.ncl_blif.specs.Named.{NamedModel, NamedCover, NamedOutput, drivers_of, named_model, size_of_named}
-use Rattle.ncl_blif.specs.Numbered.{signal_number, numbered_cover, numbered_model}
-use Rattle.ncl_blif.specs.Model.{IsModel, AreModels, AreJoined, size_of_model, weight_of_rows, most_size}
-use Rattle.ncl_blif.specs.Answer.{models_said, IsFaultless, unjoined_model}
+use Rattle.ncl_blif.proofs.Terms.{All, All-map, AreJoined, AreModels, Bool, Cover, IsFaultless, IsModel, LineData, List, NamedCover, NamedModel, NamedOutput, None, PartData, Some, Syntax, [], ap, arith, begins_model, cond, drivers_of, eqb, eqb-true, false, first_line_fault, first_section_fault, get_or, is_row, length, length-append, length-le-sum_by, length-map, length-range_with_len, lines_of, map, models_said, most_size, named_model, named_sections, not, numbered_cover, numbered_model, parts_of, refl, sections_of, signal_number, size_of_model, size_of_named, subst, sum_by, sum_by-cons, sum_by_more_le, sym, take_while, take_while-cons, true, unjoined_model, unnamed_section, up_to_model, weight_of_rows, ℕ, ◌+◌, ◌<◌, ◌∙◌, ◌∷◌, ◌≡◌, ◌≤◌}
 use Rattle.ncl_blif.proofs.NumberedLaws.{twins_differ}
 use Rattle.ncl_blif.proofs.OneDriver.{one_driver_each}
 use Rattle.ncl_blif.proofs.ModelFacts.{IsModel-numbered}

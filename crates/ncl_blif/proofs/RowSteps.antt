@@ -1,18 +1,5 @@
 -- Rows that are read one after another.
-use Rattle.std.proofs.Common.{◌≡◌, ℕ, zero, suc, ◌+◌, ◌<◌, Bool, true, false, not, ◌&&◌, eqb, List, [], ◌∷◌, ◌++◌, length, map, take, drop, get_or, refl, sym, ap, ◌∙◌, arith, codes, Option, Some, None, inl, inr, ◌⊎◌}
-use mathlib.Core.Bool.{beq}
-use Rattle.std.proofs.lemmas.Bool.{and_parts, or_cases, false_from_ne_true}
-use Rattle.std.proofs.lemmas.Slice.Eq.{bytes_eq-Decides}
-use Rattle.std.proofs.lemmas.List.{map_more, at_drop_more}
-use Rattle.std.specs.Str.{bytes_eq}
-use Rattle.std.specs.List.{list_all}
-use Rattle.ncl_blif.specs.declared.fault.BlifFault.{BlifFault}
-use Rattle.ncl_blif.specs.declared.fault.BlifFault.TheVariants.{BadRow, MixedCover}
-use Rattle.ncl_blif.specs.declared.model.Lit.{Lit}
-use Rattle.ncl_blif.specs.Line.{LineData}
-use Rattle.ncl_blif.specs.Parts.{is_names}
-use Rattle.ncl_blif.specs.Named.{last_field, pattern_of, lits_of, is_on, lists_on, cover_ins}
-use Rattle.ncl_blif.specs.LineFaults.{is_literal, is_value, is_row_of, row_fault, first_row_fault, rows_fault}
+use Rattle.ncl_blif.proofs.Terms.{BadRow, BlifFault, Bool, LineData, List, Lit, MixedCover, None, Option, Some, [], and_parts, ap, arith, at_drop_more, beq, bytes_eq, bytes_eq-Decides, codes, cover_ins, drop, eqb, false, false_from_ne_true, first_row_fault, get_or, inl, inr, is_literal, is_names, is_on, is_row_of, is_value, last_field, length, list_all, lists_on, lits_of, map, map_more, not, or_cases, pattern_of, refl, row_fault, rows_fault, suc, sym, take, true, zero, ℕ, ◌&&◌, ◌++◌, ◌+◌, ◌<◌, ◌∙◌, ◌∷◌, ◌≡◌, ◌⊎◌}
 
 -- the value of a row is 0 or 1
 pub row_value : (inputs : ℕ) (fields : List (List ℕ)) → is_row_of inputs fields ≡ true → is_value (last_field fields) ≡ true

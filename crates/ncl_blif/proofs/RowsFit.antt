@@ -1,17 +1,5 @@
 -- Where no line is broken, each row has as many literals as its cover reads signals.
-use Rattle.std.proofs.Common.{◌≡◌, ℕ, Bool, true, false, not, cond, List, [], ◌∷◌, ◌++◌, length, map, Option, Some, None, refl, ◌∙◌, subst, arith, zero, suc, eqb}
-use Rattle.std.specs.Prelude.{All}
-use Rattle.std.specs.List.{flat_map, AllByRecursion}
-use Rattle.std.proofs.lemmas.Bool.{and_parts, eqb-true}
-use Rattle.std.proofs.lemmas.List.{length-map}
-use Rattle.std.proofs.lemmas.List.Elements.{All-from_recursion}
-use Rattle.ncl_base.proofs.Tests.{option_or-none}
-use Rattle.ncl_blif.specs.declared.fault.BlifFault.TheVariants.{Syntax}
-use Rattle.ncl_blif.specs.declared.model.Lit.{Lit}
-use Rattle.ncl_blif.specs.Line.{LineData}
-use Rattle.ncl_blif.specs.Parts.{PartData, is_row, is_names, parts_of, sections_of}
-use Rattle.ncl_blif.specs.Named.{NamedCover, named_model, covers_said, cover_of, cover_ins, lits_of, pattern_of, lit_of}
-use Rattle.ncl_blif.specs.LineFaults.{is_row_of, row_fault, first_row_fault, rows_fault, head_fault, part_fault, first_part_fault, first_section_fault, first_line_fault}
+use Rattle.ncl_blif.proofs.Terms.{All, All-from_recursion, AllByRecursion, Bool, LineData, List, Lit, NamedCover, None, Option, PartData, Some, Syntax, [], and_parts, arith, cond, cover_ins, cover_of, covers_said, eqb, eqb-true, false, first_line_fault, first_part_fault, first_row_fault, first_section_fault, flat_map, head_fault, is_names, is_row, is_row_of, length, length-map, lit_of, lits_of, map, named_model, not, option_or-none, part_fault, parts_of, pattern_of, refl, row_fault, rows_fault, sections_of, subst, suc, true, zero, ℕ, ◌++◌, ◌∙◌, ◌∷◌, ◌≡◌}
 use Rattle.ncl_blif.proofs.ModelFacts.{RowsFit}
 
 missing_if_not : {X : Type 0} (b : Bool) (x : X) (rest : Option X) → cond (not b) (Some x) rest ≡ None → b ≡ true

@@ -1,14 +1,5 @@
 -- The models of parts, one after another.
-use Rattle.std.proofs.Common.{◌≡◌, ℕ, suc, ◌+◌, ◌<◌, ◌≤◌, Bool, true, false, not, cond, List, [], ◌∷◌, ◌++◌, length, map, take, drop, refl, sym, ap, ◌∙◌, arith, append_assoc, Some, None}
-use Rattle.std.proofs.lemmas.List.{take-append-drop, drop-drop, length-drop, length-append}
-use Rattle.std.proofs.lemmas.List.Sums.{take_while-cons}
-use Rattle.std.proofs.lemmas.List.Concat.{flat_map-append}
-use Rattle.std.specs.List.{prefix_len, flat_map}
-use Rattle.std.specs.Option.{option_or}
-use Rattle.ncl_blif.specs.declared.fault.BlifFault.{BlifFault}
-use Rattle.ncl_blif.specs.Parts.{PartData, begins_model, up_to_model, named_sections, unnamed_section, sections_of}
-use Rattle.ncl_blif.specs.Named.{NamedModel, named_model, drivers_of}
-use Rattle.ncl_blif.specs.LineFaults.{signals_driven, first_part_fault, first_section_fault}
+use Rattle.ncl_blif.proofs.Terms.{BlifFault, Bool, List, NamedModel, None, PartData, Some, [], ap, append_assoc, arith, begins_model, cond, drivers_of, drop, drop-drop, false, first_part_fault, first_section_fault, flat_map, flat_map-append, length, length-append, length-drop, map, named_model, named_sections, not, option_or, prefix_len, refl, sections_of, signals_driven, suc, sym, take, take-append-drop, take_while-cons, true, unnamed_section, up_to_model, ℕ, ◌++◌, ◌+◌, ◌<◌, ◌∙◌, ◌∷◌, ◌≡◌, ◌≤◌}
 use Rattle.ncl_blif.proofs.PartSteps.{named-same}
 
 -- the first model of parts, with a name or without

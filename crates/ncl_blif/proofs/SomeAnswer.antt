@@ -1,19 +1,5 @@
 -- Each text says models or is refused.
-use Rattle.std.proofs.Common.{◌≡◌, ℕ, zero, suc, ◌+◌, ◌<◌, ◌≤◌, List, [], length, map, take, get_or, Some, None, refl, subst, arith, inl, inr, ◌⊎◌}
-use Rattle.std.specs.Prelude.{All}
-use Rattle.std.proofs.lemmas.Bool.{cases_eq}
-use Rattle.std.proofs.lemmas.List.{take_all, get_or_default}
-use Rattle.std.proofs.lemmas.List.Elements.{All-nil, All-more}
-use Rattle.std.proofs.lemmas.Option.{slice_get-get_or}
-use Rattle.ncl_graph.proofs.FirstCycles.{first_or_none}
-use Rattle.ncl_blif.specs.declared.fault.BlifFault.{BlifFault}
-use Rattle.ncl_blif.specs.declared.fault.BlifFault.TheVariants.{NoBits, Undriven, Cycle, Width}
-use Rattle.ncl_blif.specs.declared.model.Model.{Model}
-use Rattle.ncl_blif.specs.Lines.{lines_of}
-use Rattle.ncl_blif.specs.Named.{NamedModel, drivers_of}
-use Rattle.ncl_blif.specs.Numbered.{numbered_model}
-use Rattle.ncl_blif.specs.LineFaults.{first_line_fault}
-use Rattle.ncl_blif.specs.Answer.{HasBits, IsFaultless, IsModelFault, no_bits, undriven, cycle, IsFirstModelFault, undriven_line, models_said, unjoined_model, IsRead, IsRefused, line, model, width}
+use Rattle.ncl_blif.proofs.Terms.{All, All-more, All-nil, BlifFault, Cycle, HasBits, IsFaultless, IsFirstModelFault, IsModelFault, IsRead, IsRefused, List, Model, NamedModel, NoBits, None, Some, Undriven, Width, [], arith, cases_eq, cycle, drivers_of, first_line_fault, first_or_none, get_or, get_or_default, inl, inr, length, line, lines_of, map, model, models_said, no_bits, numbered_model, refl, slice_get-get_or, subst, suc, take, take_all, undriven, undriven_line, unjoined_model, width, zero, ℕ, ◌+◌, ◌<◌, ◌≡◌, ◌≤◌, ◌⊎◌}
 use Rattle.ncl_blif.proofs.OneDriver.{OneDriver, one_driver_each}
 use Rattle.ncl_blif.proofs.NumberedLaws.{no_cover, twins_differ}
 use Rattle.ncl_blif.proofs.FinishLaws.{graph_of, none_cyclic, first_cyclic, cycle_within}

@@ -1,9 +1,5 @@
 -- The fields of a text in two parts.
-use Rattle.std.proofs.Common.{◌≡◌, ℕ, ◌<◌, Bool, true, false, ltb, cond, List, [], ◌∷◌, ◌++◌, length, filter, refl, ap, ◌∙◌, arith}
-use Rattle.std.proofs.lemmas.List.{append-nil}
-use Rattle.std.proofs.lemmas.List.Elements.{filter-append}
-use Rattle.std.specs.List.{slice_split, onto_first}
-use Rattle.ncl_base.specs.TextLines.{is_blank, fields_of}
+use Rattle.ncl_blif.proofs.Terms.{Bool, List, [], ap, append-nil, arith, cond, false, fields_of, filter, filter-append, is_blank, length, ltb, onto_first, refl, slice_split, true, ℕ, ◌++◌, ◌<◌, ◌∙◌, ◌∷◌, ◌≡◌}
 
 -- a part put onto the first of some lists is put onto the first of the lists before more
 onto_first-append : {X : Type 0} (x : X) (parts more : List (List X)) → 0 < length parts → onto_first x (parts ++ more) ≡ onto_first x parts ++ more

@@ -1,13 +1,5 @@
 -- The first line of a text, and what is left after it.
-use Rattle.std.proofs.Common.{◌≡◌, ℕ, ◌+◌, ◌-◌, ◌<◌, ◌≤◌, Bool, true, false, eqb, cond, not, List, [], ◌∷◌, ◌++◌, length, map, refl, sym, ap, ◌∙◌, arith, append_assoc, inl, inr}
-use Rattle.std.proofs.lemmas.Bool.{ne_eqb, cases_lt}
-use Rattle.std.proofs.lemmas.List.{take-append-le, length-append, take_all}
-use Rattle.std.specs.List.{slice_split, onto_first, position_or_len, before_first, after_first}
-use Rattle.std.specs.Str.Lines.{lines, lines_of_parts, strip_carriage_return}
-use Rattle.std.proofs.lemmas.List.Splits.{slice_split_first}
-use Rattle.ncl_blif.specs.Line.{LineData}
-use Rattle.ncl_base.specs.TextLines.{fields_of, NumberedText}
-use Rattle.ncl_blif.specs.Lines.{uncommented, is_continued, blank_at_end, put_before, joined, in_fields}
+use Rattle.ncl_blif.proofs.Terms.{Bool, LineData, List, NumberedText, [], after_first, ap, append_assoc, arith, before_first, blank_at_end, cases_lt, cond, eqb, false, fields_of, in_fields, inl, inr, is_continued, joined, length, length-append, lines, lines_of_parts, map, ne_eqb, not, onto_first, position_or_len, put_before, refl, slice_split, slice_split_first, strip_carriage_return, sym, take-append-le, take_all, true, uncommented, ℕ, ◌++◌, ◌+◌, ◌-◌, ◌<◌, ◌∙◌, ◌∷◌, ◌≡◌, ◌≤◌}
 use Rattle.ncl_blif.proofs.TextFields.{split-some, fields_of-append, fields_of-end}
 
 lines_of_parts-cons : (x : List ℕ) (parts : List (List ℕ)) → 0 < length parts → lines_of_parts (x ∷ parts) ≡ strip_carriage_return x ∷ lines_of_parts parts

@@ -1,10 +1,5 @@
 -- Names that stand twice.
-use Rattle.std.proofs.Common.{◌≡◌, ℕ, Bool, true, false, ◌||◌, List, [], ◌∷◌, ◌++◌, refl}
-use Rattle.std.specs.Cmp.Lexicographic.{nat_list_eq_equiv}
-use Rattle.std.proofs.lemmas.List.Folds.{list_any-append}
-use Rattle.std.specs.List.{list_any}
-use Rattle.std.specs.Str.{bytes_eq}
-use Rattle.ncl_blif.specs.LineFaults.{has_twins}
+use Rattle.ncl_blif.proofs.Terms.{Bool, List, [], bytes_eq, false, has_twins, list_any, list_any-append, nat_list_eq_equiv, refl, true, ℕ, ◌++◌, ◌||◌, ◌∷◌, ◌≡◌}
 
 -- one more name in between: it stands twice where it is among the others
 pub twins-middle : (front back : List (List ℕ)) (name : List ℕ) → has_twins (front ++ name ∷ back) ≡ (list_any (bytes_eq name) (front ++ back) || has_twins (front ++ back))

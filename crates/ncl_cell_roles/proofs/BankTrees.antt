@@ -1,23 +1,5 @@
 -- The completion tree of a bank: the cells whose outputs come from the bank's acknowledge cells.
-use Rattle.std.proofs.Common.{◌≡◌, ◌≢◌, ℕ, ◌<◌, ◌≤◌, Bool, true, false, List, length, map, get_or, Some, ◌⊎◌, inl, inr, ap, ◌∙◌, subst, refl, arith}
-use Rattle.std.specs.Prelude.{AllPairs, slice_get, nat_eq, filter}
-use Rattle.std.proofs.lemmas.Bool.{cases_lt, both_ways, eq-eqb, eqb-true}
-use Rattle.std.proofs.lemmas.List.Elements.{All-contains, All-filter, filter_passes}
-use Rattle.std.proofs.lemmas.List.Kept.{AllPairs-filter}
-use Rattle.std.proofs.lemmas.Option.{slice_get-get_or}
-use Rattle.ncl_netlist.specs.declared.cell.Cell.{Cell}
-use Rattle.ncl_netlist.specs.Netlist.{NetlistData, IsNetlist}
-use Rattle.ncl_cell_rules.specs.Origin.{IsCell, IsGate, IsAck, Origin, FromPort, RailOf, AckOf, ComesFrom, gate}
-use Rattle.ncl_cell_rules.specs.Free.{IsFree}
-use Rattle.ncl_shape.specs.declared.bank.Bank.{Bank}
-use Rattle.ncl_shape.specs.Closure.{net_of}
-use Rattle.ncl_shape.specs.Pipeline.{PipelineData}
-use Rattle.ncl_shape.specs.Shape.{Shape}
-use Rattle.ncl_base.proofs.Members.{Member, All-from_members, Contains-from_Member, Member-from_Contains, Member-filter}
-use Rattle.ncl_base.proofs.Lists.{Differ, differ_of_map}
-use Rattle.ncl_cell_rules.proofs.Drivers.{cell_fits, same_place, same_driver}
-use Rattle.ncl_cell_rules.proofs.OriginLaws.{place_of, has_origin, driver_of_ack}
-use Rattle.ncl_cell_rules.proofs.NetOrigins.{one_origin}
+use Rattle.ncl_cell_roles.proofs.Terms.{AckOf, All-contains, All-filter, All-from_members, AllPairs, AllPairs-filter, Bank, Bool, Cell, ComesFrom, Contains-from_Member, Differ, FromPort, IsAck, IsCell, IsFree, IsGate, IsNetlist, List, Member, Member-filter, Member-from_Contains, NetlistData, Origin, PipelineData, RailOf, Shape, Some, ap, arith, both_ways, cases_lt, cell_fits, differ_of_map, driver_of_ack, eq-eqb, eqb-true, false, filter, filter_passes, gate, get_or, has_origin, inl, inr, length, map, nat_eq, net_of, one_origin, place_of, refl, same_driver, same_place, slice_get, slice_get-get_or, subst, true, ℕ, ◌<◌, ◌∙◌, ◌≡◌, ◌≢◌, ◌≤◌, ◌⊎◌}
 use Rattle.ncl_cell_roles.proofs.Numbering.{root_is_one}
 
 -- the outputs of the cells of a netlist differ

@@ -1,25 +1,6 @@
 -- What stands between two banks: each stage with its gates, and the register cells that read its outputs.
-use Rattle.std.proofs.Common.{◌≡◌, ◌≢◌, ℕ, zero, suc, ◌+◌, ◌<◌, ◌≤◌, Bool, List, [], ◌∷◌, ◌++◌, length, map, ◌⊎◌, inl, inr, refl, sym, ap, ◌∙◌, subst, arith}
-use Rattle.std.specs.Prelude.{AllPairs, Contains, slice_get, Some}
-use Rattle.std.proofs.lemmas.List.{length-map, append-nil}
-use Rattle.std.proofs.lemmas.Option.{slice_get_within}
-use Rattle.std.proofs.lemmas.Slice.Zip.{AllZip-long}
-use Rattle.ncl_gates.specs.declared.kind.Kind.{Kind}
-use Rattle.ncl_gates.specs.declared.cell_kind.CellKind.TheVariants.{Gate}
-use Rattle.ncl_netlist.specs.declared.ids.NetId.{NetId}
-use Rattle.ncl_netlist.specs.declared.cell.Cell.{Cell}
-use Rattle.ncl_cell_rules.specs.Origin.{CellAt, OnPin, B, RailOf, ComesFrom, rail}
-use Rattle.ncl_shape.specs.declared.rails.Rails.{Rails}
-use Rattle.ncl_shape.specs.declared.bank.Bank.{Bank}
-use Rattle.ncl_shape.specs.declared.stage.StageCell.{StageCell}
-use Rattle.ncl_shape.specs.Stage.{StageData, IsStage, rail_nets, nets_of, out_of}
-use Rattle.ncl_shape.specs.Pipeline.{PipelineData}
-use Rattle.ncl_shape.specs.Shape.{Shape, AreRailsOf, AreInputsOf, IsGateOf}
-use Rattle.ncl_shape.specs.Chain.{ShownOutputs}
-use Rattle.ncl_base.proofs.Members.{Member, All-from_members, Member-from_Contains, Contains-from_Member, Contains-from_slice_get, slice_get-from_Contains, slice_get-some, Member-append_cases, member_of_map}
-use Rattle.ncl_cell_rules.proofs.OriginLaws.{bank_of_rail}
-use Rattle.ncl_shape.proofs.ShapeLaws.{requests, request_at, same_cell}
-use Rattle.ncl_cell_roles.specs.Layout.{rail_at, IsCellOf, IsRegisterOn, SomeCell}
+use Rattle.ncl_cell_roles.proofs.Terms.{All-from_members, AllPairs, AllZip-long, AreInputsOf, AreRailsOf, B, Bank, Bool, Cell, CellAt, ComesFrom, Contains, Contains-from_Member, Contains-from_slice_get, Gate, IsCellOf, IsGateOf, IsRegisterOn, IsStage, Kind, List, Member, Member-append_cases, Member-from_Contains, NetId, OnPin, PipelineData, RailOf, Rails, Shape, ShownOutputs, SomeCell, StageCell, StageData, [], ap, append-nil, arith, bank_of_rail, inl, inr, length, length-map, map, member_of_map, nets_of, out_of, rail, rail_at, rail_nets, refl, request_at, requests, same_cell, slice_get, slice_get-from_Contains, slice_get-some, slice_get_within, subst, suc, sym, zero, ℕ, ◌++◌, ◌+◌, ◌<◌, ◌∙◌, ◌∷◌, ◌≡◌, ◌≢◌, ◌≤◌, ◌⊎◌}
+use Rattle.std.specs.Prelude.{Some}
 use Rattle.ncl_cell_roles.proofs.RailNets.{rail-place}
 use Rattle.ncl_cell_roles.proofs.BankBits.{IsRegisterOfRail, place_of_rail, drives_rail, reads_rail, has_bit, register_of_rail, bank_rails_differ}
 use Rattle.ncl_cell_roles.proofs.Numbering.{wires_of, stage_at, root_at, inner_or_last, last_stage, bank_named, stage_after, bank_rails, bank_inputs, request_is_root}

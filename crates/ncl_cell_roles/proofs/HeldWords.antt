@@ -1,24 +1,6 @@
 -- The words that banks hold at reset: a bank is reset to DATA in each of its bits or in none, and no bank that is
 -- reset to DATA is followed by one.
-use Rattle.std.proofs.Common.{◌≡◌, ℕ, ◌+◌, ◌<◌, Bool, true, false, not, ◌&&◌, ◌||◌, if◌then◌else◌, List, [], ◌∷◌, length, map, get_or, Option, None, Some, is_some, inl, inr, refl, sym, ap, ◌∙◌, subst, arith}
-use Rattle.std.proofs.lemmas.Bool.{both_ways, cases_Bool, false_from_ne_true}
-use Rattle.std.proofs.lemmas.List.{length-map, get_or-map}
-use Rattle.std.proofs.lemmas.Option.{slice_get_within, get_or_from_slice_get}
-use Rattle.ncl_base.proofs.Members.{Member, Contains-from_Member, Member-from_Contains, Contains-from_slice_get, slice_get-from_Contains, member_cases, list_any-from_member, member_from_list_any}
-use Rattle.ncl_gates.specs.Cell.{is_data_register, pins_of}
-use Rattle.ncl_netlist.specs.declared.ids.NetId.{NetId}
-use Rattle.ncl_netlist.specs.declared.cell.Cell.{Cell}
-use Rattle.ncl_netlist.specs.Netlist.{NetlistData, IsNetlist}
-use Rattle.ncl_cell_rules.specs.Origin.{CellAt, IsCell, IsDataBank, A, B}
-use Rattle.ncl_cell_rules.specs.Free.{IsFree}
-use Rattle.ncl_cell_rules.proofs.Drivers.{cell_fits, same_driver}
-use Rattle.ncl_cell_rules.proofs.CellTests.{same_net}
-use Rattle.ncl_shape.specs.declared.bank.Bank.{Bank}
-use Rattle.ncl_shape.specs.declared.bank.Bit.{Bit}
-use Rattle.ncl_shape.specs.Held.{is_data_bank, value_or_low, word_held}
-use Rattle.ncl_shape.specs.Shape.{IsBankOf, IsBitOf}
-use Rattle.ncl_shape.proofs.ShapeLaws.{same_cell}
-use Rattle.ncl_cell_roles.specs.Layout.{holds_rail}
+use Rattle.ncl_cell_roles.proofs.Terms.{A, B, Bank, Bit, Bool, Cell, CellAt, Contains-from_Member, Contains-from_slice_get, IsBankOf, IsBitOf, IsCell, IsDataBank, IsFree, IsNetlist, List, Member, Member-from_Contains, NetId, NetlistData, None, Option, Some, [], ap, arith, both_ways, cases_Bool, cell_fits, false, false_from_ne_true, get_or, get_or-map, get_or_from_slice_get, holds_rail, if◌then◌else◌, inl, inr, is_data_bank, is_data_register, is_some, length, length-map, list_any-from_member, map, member_cases, member_from_list_any, not, pins_of, refl, same_cell, same_driver, same_net, slice_get-from_Contains, slice_get_within, subst, sym, true, value_or_low, word_held, ℕ, ◌&&◌, ◌+◌, ◌<◌, ◌||◌, ◌∙◌, ◌∷◌, ◌≡◌}
 use Rattle.ncl_cell_roles.proofs.BankBits.{IsRegisterOfRail, place_of_rail, two_pins}
 
 -- the start of a bit by whether its cells are reset to 1

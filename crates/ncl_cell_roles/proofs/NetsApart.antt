@@ -1,19 +1,5 @@
 -- Each net is of one stage or of one completion tree: what it comes from tells which.
-use Rattle.std.proofs.Common.{◌≡◌, ℕ, zero, suc, ◌<◌, ◌≤◌, List, [], ◌∷◌, length, map, inl, inr, refl, sym, ap, subst, Option, None, Some, arith}
-use Rattle.std.specs.Prelude.{slice_get}
-use Rattle.std.proofs.lemmas.Bool.{cases_lt}
-use Rattle.std.proofs.lemmas.List.{append-nil}
-use Rattle.std.proofs.lemmas.Option.{slice_get_past}
-use Rattle.ncl_netlist.specs.declared.cell.Cell.{Cell}
-use Rattle.ncl_cell_rules.specs.Origin.{IsCell, IsInputPort, Origin, FromPort, RailOf, AckOf, ComesFrom, port}
-use Rattle.ncl_shape.specs.declared.bank.Bank.{Bank}
-use Rattle.ncl_shape.specs.Stage.{rail_nets, nets_of}
-use Rattle.ncl_shape.specs.Closure.{net_of}
-use Rattle.ncl_shape.specs.Pipeline.{PipelineData}
-use Rattle.ncl_shape.specs.Shape.{Shape}
-use Rattle.ncl_base.proofs.Members.{Member, member_cases, member_of_map, slice_get-some}
-use Rattle.ncl_cell_rules.proofs.OriginLaws.{origin_within}
-use Rattle.ncl_cell_rules.proofs.NetOrigins.{one_origin}
+use Rattle.ncl_cell_roles.proofs.Terms.{AckOf, Bank, Cell, ComesFrom, FromPort, IsCell, IsInputPort, List, Member, None, Option, Origin, PipelineData, RailOf, Shape, Some, [], ap, append-nil, arith, cases_lt, inl, inr, length, map, member_cases, member_of_map, net_of, nets_of, one_origin, origin_within, port, rail_nets, refl, slice_get, slice_get-some, slice_get_past, subst, suc, sym, zero, ℕ, ◌<◌, ◌∷◌, ◌≡◌, ◌≤◌}
 use Rattle.ncl_cell_roles.proofs.Numbering.{stage_at, banks_apart}
 use Rattle.ncl_cell_roles.proofs.EndLaws.{input_is_port, ki_is_port, ki_is_no_input}
 use Rattle.ncl_cell_roles.proofs.BetweenBanks.{stage_origin}

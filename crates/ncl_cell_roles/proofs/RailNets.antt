@@ -1,11 +1,5 @@
 -- The rails of some bits by the number of the bit and the value that the rail stands for.
-use Rattle.std.proofs.Common.{◌≡◌, ◌≢◌, ℕ, zero, suc, ◌<◌, Bool, true, false, List, [], ◌∷◌, length, refl, ◌∙◌, arith}
-use Rattle.std.specs.Prelude.{AllPairs}
-use Rattle.std.proofs.lemmas.List.Kept.{AllPairs-cons}
-use Rattle.ncl_shape.specs.declared.rails.Rails.{Rails}
-use Rattle.ncl_shape.specs.Stage.{rail_of, rail_nets}
-use Rattle.ncl_base.proofs.Members.{Member, here, there, All-from_members}
-use Rattle.ncl_cell_roles.specs.Layout.{rail_at}
+use Rattle.ncl_cell_roles.proofs.Terms.{All-from_members, AllPairs, AllPairs-cons, Bool, List, Member, Rails, [], arith, false, here, length, rail_at, rail_nets, rail_of, refl, suc, there, true, zero, ℕ, ◌<◌, ◌∙◌, ◌∷◌, ◌≡◌, ◌≢◌}
 
 -- each of them is a rail net
 pub rail-within : (bits : List Rails) (b : ℕ) (r : Bool) → b < length bits → Member (rail_at bits b r) (rail_nets bits)

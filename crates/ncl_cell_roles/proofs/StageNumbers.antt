@@ -1,12 +1,5 @@
 -- The stages of a layout by number: each is one of the pipeline or wires, and each of the pipeline is there.
-use Rattle.std.proofs.Common.{◌≡◌, ℕ, zero, suc, ◌<◌, ◌≤◌, length, ◌⊎◌, inl, inr, sym, subst, arith}
-use Rattle.std.specs.Prelude.{Contains}
-use Rattle.std.proofs.lemmas.Bool.{cases_lt}
-use Rattle.std.proofs.lemmas.Option.{slice_get_within}
-use Rattle.ncl_shape.specs.Stage.{StageData}
-use Rattle.ncl_shape.specs.Pipeline.{PipelineData}
-use Rattle.ncl_base.proofs.Members.{Contains-from_slice_get, slice_get-from_Contains, slice_get-some}
-use Rattle.ncl_cell_roles.specs.Layout.{Layout, IsWires, IsLayoutOf}
+use Rattle.ncl_cell_roles.proofs.Terms.{Contains, Contains-from_slice_get, IsLayoutOf, IsWires, Layout, PipelineData, StageData, arith, cases_lt, inl, inr, length, slice_get-from_Contains, slice_get-some, slice_get_within, subst, suc, sym, zero, ℕ, ◌<◌, ◌≡◌, ◌≤◌, ◌⊎◌}
 
 module _ (p : PipelineData) (l : Layout) (is : IsLayoutOf p l) where
   pub wires_or_stage : (k : ℕ) → k ≤ l.last → Contains p.stages (l.stage k) ⊎ IsWires (l.stage k)

@@ -1,19 +1,6 @@
 -- The pins of acknowledge cells: by the third rule the output of each register cell is on exactly one of them.
-use Rattle.std.proofs.Common.{◌≡◌, ℕ, zero, suc, ◌+◌, ◌<◌, ◌≤◌, cond, List, [], ◌∷◌, length, ◌⊎◌, inl, inr, refl, ap, subst, arith}
-use Rattle.std.specs.Prelude.{slice_get, Some, ◌==◌, nat_lt, sum_by}
-use Rattle.std.proofs.lemmas.Bool.{cases_lt, eq-eqb, eqb-true}
-use Rattle.std.proofs.lemmas.List.Sums.{sum_by-cons, sum_by-le-sum_by, get_or-le-sum_by}
-use Rattle.std.proofs.lemmas.Option.{slice_get_within, get_or_from_slice_get}
-use Rattle.ncl_gates.specs.declared.cell_kind.CellKind.{CellKind}
-use Rattle.ncl_gates.specs.declared.cell_kind.CellKind.TheVariants.{Gate, Register, RegisterData, Ack}
-use Rattle.ncl_gates.specs.Cell.{pins_of}
-use Rattle.ncl_netlist.specs.declared.ids.NetId.{NetId}
-use Rattle.ncl_netlist.specs.declared.cell.Cell.{Cell}
-use Rattle.ncl_netlist.specs.Netlist.{NetlistData, IsNetlist}
-use Rattle.ncl_cell_rules.specs.Origin.{IsCell, CellAt, IsRegister, IsAck, OnPin, A, B, IsOfBank, AcksBank}
-use Rattle.ncl_cell_rules.specs.Rules.{ReadsOneBit, pins_with, ack_pins_of, ack_pins}
-use Rattle.ncl_cell_rules.specs.Free.{IsFree}
-use Rattle.ncl_base.proofs.Members.{Member, here, there, Contains-from_Member, Member-from_Contains, Contains-from_slice_get, slice_get-from_Contains, count_from_member, member_from_count, place_is_one}
+use Rattle.ncl_cell_rules.proofs.Terms.{A, Ack, AcksBank, B, Cell, CellAt, CellKind, Contains-from_Member, Contains-from_slice_get, Gate, IsAck, IsCell, IsFree, IsNetlist, IsOfBank, IsRegister, List, Member, Member-from_Contains, NetId, NetlistData, OnPin, ReadsOneBit, Register, RegisterData, [], ack_pins, ack_pins_of, ap, arith, cases_lt, cond, count_from_member, eq-eqb, eqb-true, get_or-le-sum_by, get_or_from_slice_get, here, inl, inr, length, member_from_count, nat_lt, pins_of, pins_with, place_is_one, refl, slice_get, slice_get-from_Contains, slice_get_within, subst, suc, sum_by, sum_by-cons, sum_by-le-sum_by, there, zero, ℕ, ◌+◌, ◌<◌, ◌==◌, ◌∷◌, ◌≡◌, ◌≤◌, ◌⊎◌}
+use Rattle.std.specs.Prelude.{Some}
 use Rattle.ncl_cell_rules.proofs.Drivers.{cell_fits, same_driver}
 use Rattle.ncl_cell_rules.proofs.OriginLaws.{place_of}
 use Rattle.ncl_cell_rules.proofs.NetOrigins.{bank_is_one}

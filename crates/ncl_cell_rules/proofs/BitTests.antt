@@ -1,14 +1,5 @@
 -- The register cells behind the pins of an acknowledge cell.
-use Rattle.std.proofs.Common.{◌≡◌, ℕ, ◌<◌, true, false, ◌&&◌, List, length, get_or, Some, sym, ap, ◌∙◌, subst, arith}
-use Rattle.std.proofs.lemmas.Bool.{and_from, both_ways}
-use Rattle.ncl_gates.specs.Cell.{is_data_register}
-use Rattle.ncl_netlist.specs.declared.ids.NetId.{NetId}
-use Rattle.ncl_netlist.specs.declared.cell.Cell.{Cell}
-use Rattle.ncl_netlist.specs.Netlist.{NetlistData, IsNetlist}
-use Rattle.ncl_base.proofs.Members.{Contains-from_slice_get}
-use Rattle.ncl_cell_rules.specs.Origin.{IsCell, CellAt, IsAck, OnPin, A, B, IsOfBank, AcksBank}
-use Rattle.ncl_cell_rules.specs.Rules.{ReadsOneBit}
-use Rattle.ncl_cell_rules.specs.GateGraph.{IsDataBehind, IsRegisterBehind}
+use Rattle.ncl_cell_rules.proofs.Terms.{A, AcksBank, B, Cell, CellAt, Contains-from_slice_get, IsAck, IsCell, IsDataBehind, IsNetlist, IsOfBank, IsRegisterBehind, List, NetId, NetlistData, OnPin, ReadsOneBit, Some, and_from, ap, arith, both_ways, false, get_or, is_data_register, length, subst, sym, true, ℕ, ◌&&◌, ◌<◌, ◌∙◌, ◌≡◌}
 use Rattle.ncl_cell_rules.proofs.Drivers.{same_driver, same_place}
 use Rattle.ncl_cell_rules.proofs.OriginLaws.{place_of}
 use Rattle.ncl_cell_rules.proofs.CellTests.{same_net}

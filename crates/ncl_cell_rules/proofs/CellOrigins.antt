@@ -1,10 +1,5 @@
 -- Where the output of a gate cell comes from.
-use Rattle.std.proofs.Common.{◌≡◌, ℕ, sym, ap, subst, ◌∙◌}
-use Rattle.ncl_gates.specs.declared.cell_kind.CellKind.TheVariants.{Gate, Ack}
-use Rattle.ncl_gates.proofs.RegisterLaws.{register_no_gate}
-use Rattle.ncl_netlist.specs.declared.cell.Cell.{Cell}
-use Rattle.ncl_netlist.specs.Netlist.{NetlistData, IsNetlist}
-use Rattle.ncl_cell_rules.specs.Origin.{IsCell, IsGate, IsRegister, IsAck, ReadsNet, IsInputPort, Origin, ComesFrom, port, rail, ack, gate}
+use Rattle.ncl_cell_rules.proofs.Terms.{Ack, Cell, ComesFrom, Gate, IsAck, IsCell, IsGate, IsInputPort, IsNetlist, IsRegister, NetlistData, Origin, ReadsNet, ack, ap, gate, port, rail, register_no_gate, subst, sym, ℕ, ◌∙◌, ◌≡◌}
 use Rattle.ncl_cell_rules.proofs.Drivers.{same_driver, no_cell_drives_port}
 
 -- a gate cell is no cell of the other sorts

@@ -1,20 +1,6 @@
 -- Tests of cells that compute: what holds of each cell of a written netlist that passes a test holds of each
 -- cell that is so.
-use Rattle.std.proofs.Common.{◌≡◌, ℕ, Bool, true, false, Option, None, Some, refl, ap, subst, ◌∙◌}
-use Rattle.std.specs.Prelude.{filter, slice_get, nat_eq}
-use Rattle.std.specs.List.{AllByRecursion}
-use Rattle.std.proofs.lemmas.Bool.{and_from, and_parts, both_ways, eq-eqb, eqb-true}
-use Rattle.std.proofs.lemmas.List.Elements.{All-from_recursion, All-contains}
-use Rattle.ncl_gates.specs.declared.cell_kind.CellKind.{CellKind}
-use Rattle.ncl_gates.specs.declared.cell_kind.CellKind.TheVariants.{Gate, Register, RegisterData, Ack}
-use Rattle.ncl_gates.specs.Cell.{is_register, is_data_register}
-use Rattle.ncl_gates.proofs.RegisterLaws.{data_is_register}
-use Rattle.ncl_netlist.specs.declared.ids.NetId.{NetId}
-use Rattle.ncl_netlist.specs.declared.cell.Cell.{Cell}
-use Rattle.ncl_netlist.specs.Netlist.{NetlistData}
-use Rattle.ncl_cell_rules.specs.Origin.{IsCell, IsGate, IsRegister, ReadsNet, OnPin, B, IsOfBank, IsDataRegister}
-use Rattle.ncl_cell_rules.specs.CellTests.{is_gate, has_net, register_test, bank_test, data_test, gate_reads_test}
-use Rattle.ncl_base.proofs.Members.{Member-from_Contains, Contains-from_Member, Member-filter, list_any-from_member, member_from_list_any}
+use Rattle.ncl_cell_rules.proofs.Terms.{Ack, All-contains, All-from_recursion, AllByRecursion, B, Bool, Cell, CellKind, Contains-from_Member, Gate, IsCell, IsDataRegister, IsGate, IsOfBank, IsRegister, Member-filter, Member-from_Contains, NetId, NetlistData, None, OnPin, Option, ReadsNet, Register, RegisterData, Some, and_from, and_parts, ap, bank_test, both_ways, data_is_register, data_test, eq-eqb, eqb-true, false, filter, gate_reads_test, has_net, is_data_register, is_gate, is_register, list_any-from_member, member_from_list_any, nat_eq, refl, register_test, slice_get, subst, true, ℕ, ◌∙◌, ◌≡◌}
 
 -- what holds of each cell that passes a test
 pub each_passing : (n : NetlistData) (test : Cell → Bool) (P : Cell → Type 0) → AllByRecursion P (filter test n.cells) → (c : Cell) → IsCell n c → test c ≡ true → P c

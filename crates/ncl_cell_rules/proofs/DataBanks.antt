@@ -1,10 +1,5 @@
 -- The table of the banks that are reset to DATA, one cell more at a time, and what it tells.
-use Rattle.std.proofs.Common.{◌≡◌, ℕ, ◌<◌, Bool, true, false, List, length, get_or, sym, ◌∙◌}
-use Rattle.ncl_base.proofs.Members.{Member-from_Contains, Contains-from_Member, list_any-from_member, member_from_list_any}
-use Rattle.ncl_netlist.specs.Netlist.{NetlistData}
-use Rattle.ncl_cell_rules.specs.Origin.{IsDataBank}
-use Rattle.ncl_cell_rules.specs.CellTests.{data_test}
-use Rattle.ncl_cell_rules.specs.Tables.{AreDataBanks}
+use Rattle.ncl_cell_rules.proofs.Terms.{AreDataBanks, Bool, Contains-from_Member, IsDataBank, List, Member-from_Contains, NetlistData, data_test, false, get_or, length, list_any-from_member, member_from_list_any, sym, true, ℕ, ◌<◌, ◌∙◌, ◌≡◌}
 use Rattle.ncl_cell_rules.proofs.CellTests.{data_passes, data-from_test}
 
 module _ (n : NetlistData) (flags : List Bool) (are : AreDataBanks n flags) (net : ℕ) (inside : net < length n.nets) where

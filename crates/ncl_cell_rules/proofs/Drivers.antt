@@ -1,13 +1,6 @@
 -- What drives a net of a netlist: an input port or one cell.
-use Rattle.std.proofs.Common.{◌≡◌, ℕ, zero, suc, ◌<◌, ◌≤◌, Bool, false, if◌then◌else◌, List, [], ◌∷◌, length, map, get_or, Some, ◌⊎◌, inl, inr, refl, sym, ap, ◌∙◌, arith}
-use Rattle.std.specs.Prelude.{slice_get, nat_eq}
-use Rattle.std.proofs.lemmas.Bool.{cases_Bool, cases_lt, eq-eqb, eqb-true}
-use Rattle.std.proofs.lemmas.List.Elements.{All-contains}
+use Rattle.ncl_cell_rules.proofs.Terms.{All-contains, Bool, Cell, CellAt, CellFits, Contains-from_Member, Contains-from_slice_get, IsCell, IsInputPort, IsNetlist, List, Member-from_Contains, NetlistData, Some, [], ap, arith, cases_Bool, cases_lt, count_from_member, drivers_of, drives, eq-eqb, eqb-true, false, get_or, if◌then◌else◌, inl, inr, length, map, member_from_count, nat_eq, place_is_one, refl, slice_get, slice_get-from_Contains, suc, sym, zero, ℕ, ◌<◌, ◌∙◌, ◌∷◌, ◌≡◌, ◌≤◌, ◌⊎◌}
 use Rattle.ncl_netlist.specs.declared.port.Port.{Port}
-use Rattle.ncl_netlist.specs.declared.cell.Cell.{Cell}
-use Rattle.ncl_netlist.specs.Netlist.{NetlistData, IsNetlist, CellFits, drives, drivers_of}
-use Rattle.ncl_cell_rules.specs.Origin.{IsCell, CellAt, IsInputPort}
-use Rattle.ncl_base.proofs.Members.{Contains-from_Member, Member-from_Contains, Contains-from_slice_get, slice_get-from_Contains, count_from_member, member_from_count, place_is_one}
 
 -- an input port drives its net
 port_drives : (ports : List Port) (net : ℕ) (port : Port) → slice_get ports net ≡ Some port → port.output ≡ false → get_or (map drives ports) net 0 ≡ 1

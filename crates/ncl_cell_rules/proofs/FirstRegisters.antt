@@ -1,27 +1,8 @@
 -- The first register cell of each bank, found cell by cell.
-use Rattle.std.proofs.Common.{◌≡◌, ℕ, ◌+◌, ◌<◌, ◌≤◌, Bool, true, false, cond, List, [], length, take, get_or, set, replicate, Option, None, Some, is_some, inl, inr, refl, sym, ap, ◌∙◌, subst, arith, get_or-set_same, get_or-set_other, length-set}
-use Rattle.std.specs.Prelude.{position}
-use Rattle.std.specs.List.{position_from}
-use Rattle.std.specs.Option.{option_or}
-use Rattle.std.proofs.lemmas.Bool.{cases_eq, and_from, and_parts, both_ways, eq-eqb, eqb-true}
-use Rattle.ncl_gates.specs.declared.cell_kind.CellKind.TheVariants.{Register}
-use Rattle.ncl_gates.specs.Cell.{is_register}
-use Rattle.std.proofs.lemmas.List.{take_all, length-replicate, get_or-replicate}
-use Rattle.std.proofs.lemmas.Option.{slice_get_within, get_or_from_slice_get}
-use Rattle.ncl_base.proofs.Growing.{position_from-more, position_from-found}
-use Rattle.ncl_base.proofs.Members.{Member-from_Contains, Contains-from_slice_get, slice_get-some, first_passing}
+use Rattle.ncl_cell_rules.proofs.Terms.{AreFirsts, B, Bool, Cell, CellAt, Contains-from_slice_get, IsCell, IsFirstOfBank, IsNetlist, IsOfBank, IsRegister, List, Member-from_Contains, NetId, NetlistData, None, OnPin, Option, Register, Some, [], and_from, and_parts, ap, arith, bank_test, both_ways, cases_eq, cond, eq-eqb, eqb-true, false, first_at, first_passing, get_or, get_or-replicate, get_or-set_other, get_or-set_same, get_or_from_slice_get, has_net, inl, inr, is_register, is_some, length, length-replicate, length-set, option_or, position, position-Some, position_from, position_from-found, position_from-more, position_from-zero, refl, replicate, set, slice_get-some, slice_get_within, subst, sym, take, take_all, true, ℕ, ◌+◌, ◌<◌, ◌∙◌, ◌≡◌, ◌≤◌}
 use Rattle.ncl_cell_rules.proofs.PinNumbers.{no_net, register_on, register_inside}
 use Rattle.ncl_cell_rules.proofs.TableSteps.{cell_read}
 use Rattle.ncl_cell_rules.proofs.CellTests.{of_bank_passes, of_bank-from_test}
-use Rattle.ncl_netlist.specs.declared.cell.Cell.{Cell}
-use Rattle.ncl_netlist.specs.declared.ids.NetId.{NetId}
-use Rattle.ncl_netlist.specs.Netlist.{NetlistData, IsNetlist}
-use Rattle.ncl_cell_rules.specs.Origin.{IsCell, CellAt, IsRegister, OnPin, B, IsOfBank}
-use Rattle.ncl_cell_rules.specs.CellTests.{has_net, bank_test}
-use Rattle.ncl_cell_rules.specs.Tables.{AreFirsts, first_at}
-use Rattle.ncl_cell_rules.specs.Rules.{IsFirstOfBank}
-use Rattle.std.proofs.lemmas.Iterator.Adapters.{position_from-zero}
-use Rattle.std.proofs.lemmas.List.Quantifiers.{position-Some}
 
 -- the first register cells among the first k cells
 pub record AreFirstsOf (n : NetlistData) (k : ℕ) (firsts : List (Option ℕ)) : Type 0 where

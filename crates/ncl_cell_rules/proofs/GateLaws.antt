@@ -1,22 +1,8 @@
 -- The graph of the gate cells has the paths of the gate cells.
-use Rattle.std.proofs.Common.{◌≡◌, ℕ, List, [], Option, Some, refl, sym, ap, ◌∙◌, subst, arith}
-use Rattle.std.specs.Prelude.{Contains}
-use Rattle.std.proofs.lemmas.List.{get_or-map}
-use Rattle.std.proofs.lemmas.Option.{slice_get_within, get_or_from_slice_get}
-use Rattle.ncl_gates.specs.declared.cell_kind.CellKind.{CellKind}
-use Rattle.ncl_gates.specs.declared.cell_kind.CellKind.TheVariants.{Gate, Register, RegisterData, Ack}
-use Rattle.ncl_netlist.specs.declared.ids.NetId.{NetId}
-use Rattle.ncl_netlist.specs.declared.cell.Cell.{Cell}
-use Rattle.ncl_netlist.specs.Netlist.{NetlistData, IsNetlist}
-use Rattle.ncl_cell_rules.specs.Origin.{CellAt, IsGate, ReadsNet, LeadsTo, one, more}
-use Rattle.ncl_graph.specs.Graph.{successors, Leads, arc, further}
-use Rattle.ncl_graph.proofs.Paths.{Leads-push}
-use Rattle.ncl_base.proofs.Members.{Contains-from_slice_get}
+use Rattle.ncl_cell_rules.proofs.Terms.{Ack, AreDrivers, Cell, CellAt, CellKind, Contains, Contains-filter_map, Contains-filter_map_of, Contains-from_slice_get, Drives, Gate, IsGate, IsNetlist, Leads, Leads-push, LeadsTo, List, NetId, NetlistData, Option, ReadsNet, Register, RegisterData, Some, [], ap, arc, arcs, arcs_of, arith, driver_at, further, gate_graph, get_or-map, get_or_from_slice_get, more, one, refl, slice_get_within, subst, successors, sym, ℕ, ◌∙◌, ◌≡◌}
 use Rattle.ncl_cell_rules.proofs.Drivers.{same_place}
 use Rattle.ncl_cell_rules.proofs.OriginLaws.{place_of}
-use Rattle.ncl_base.proofs.Growing.{Contains-filter_map, Contains-filter_map_of}
 use Rattle.ncl_cell_rules.proofs.GateRanks.{LeadsTo-push}
-use Rattle.ncl_cell_rules.specs.GateGraph.{Drives, driver_at, AreDrivers, arcs_of, arcs, gate_graph}
 
 no_arcs : (j : ℕ) → Contains [] j → ⊥
 no_arcs j (k, lt, at) = omega arith

@@ -1,27 +1,9 @@
 -- Where no gate cell lies on a cycle, the cells have an order in which each gate stands after what drives it, and nets have
 -- ranks that rise along every gate cell.
-use Rattle.std.proofs.Common.{◌≡◌, ℕ, ◌<◌, ◌≤◌, Bool, true, List, [], length, map, get_or, inl, inr, sym, ap, ◌∙◌, subst, arith}
-use Rattle.std.specs.Prelude.{All, Contains, nat_eq, filter}
-use Rattle.std.specs.List.{position_or_len, range_with_len}
-use Rattle.std.proofs.lemmas.Bool.{cases_lt, both_ways, eq-eqb, eqb-true}
-use Rattle.std.proofs.lemmas.List.{get_or-map, get_or_past, get_or_default, get_or-take, length-map, length-take}
-use Rattle.std.proofs.lemmas.List.Elements.{All-contains, All-filter, filter_passes}
-use Rattle.std.proofs.lemmas.List.FromFn.{length-range_with_len, get_or-range_with_len}
-use Rattle.std.proofs.lemmas.List.Sums.{fails_before_first, passes_at_first}
-use Rattle.std.proofs.lemmas.Option.{slice_get_within, slice_get-get_or, get_or_from_slice_get}
-use Rattle.ncl_graph.specs.Graph.{successors, IsGraph, Leads, IsOnCycle, IsOrder}
+use Rattle.ncl_cell_rules.proofs.Terms.{All, All-contains, All-filter, All-from_members, Bool, Cell, CellAt, Contains, Contains-from_Member, Contains-from_slice_get, IsCell, IsCellOrder, IsFree, IsGate, IsGraph, IsNetlist, IsOnCycle, IsOrder, Leads, LeadsTo, List, Member-filter, Member-from_Contains, NetlistData, ReadsNet, Register, [], acyclic_has_order, ap, arith, both_ways, cases_lt, eq-eqb, eqb-true, fails_before_first, filter, filter_passes, gate_reads_test, get_or, get_or-map, get_or-range_with_len, get_or-take, get_or_default, get_or_from_slice_get, get_or_past, inl, inr, length, length-map, length-range_with_len, length-take, map, more, most_cells, nat_eq, one, passes_at_first, position_or_len, range_with_len, slice_get-from_Contains, slice_get-get_or, slice_get_within, stands_below, subst, successors, sym, true, ℕ, ◌<◌, ◌∙◌, ◌≡◌, ◌≤◌}
 use Rattle.ncl_graph.specs.Graph.Leads.{arc, further}
-use Rattle.ncl_graph.proofs.Orders.{acyclic_has_order, stands_below}
-use Rattle.ncl_gates.specs.declared.cell_kind.CellKind.TheVariants.{Register}
-use Rattle.ncl_netlist.specs.declared.cell.Cell.{Cell}
-use Rattle.ncl_netlist.specs.Netlist.{NetlistData, IsNetlist, most_cells}
-use Rattle.ncl_cell_rules.specs.Origin.{IsCell, CellAt, IsGate, ReadsNet, LeadsTo, one, more}
-use Rattle.ncl_cell_rules.specs.Free.{IsFree}
-use Rattle.ncl_cell_rules.specs.CellOrder.{IsCellOrder}
-use Rattle.ncl_base.proofs.Members.{Contains-from_Member, Member-from_Contains, Member-filter, All-from_members, Contains-from_slice_get, slice_get-from_Contains}
 use Rattle.ncl_cell_rules.proofs.Drivers.{same_place}
 use Rattle.ncl_cell_rules.proofs.OriginLaws.{place_of}
-use Rattle.ncl_cell_rules.specs.CellTests.{gate_reads_test}
 use Rattle.ncl_cell_rules.proofs.CellTests.{gate_reads_passes, gate_reads-from_test}
 
 -- the first place that passes a test is no later than any that does

@@ -1,13 +1,5 @@
 -- The gate cells are a graph, whose arcs lead to places of cells.
-use Rattle.std.proofs.Common.{◌≡◌, ℕ, ◌<◌, List, length, get_or, Option, arith}
-use Rattle.std.specs.Prelude.{All}
-use Rattle.std.proofs.lemmas.List.{length-map}
-use Rattle.std.proofs.lemmas.List.Elements.{All-map}
-use Rattle.std.proofs.lemmas.Option.{slice_get_within}
-use Rattle.ncl_netlist.specs.Netlist.{NetlistData}
-use Rattle.ncl_graph.specs.Graph.{IsGraph}
-use Rattle.ncl_base.proofs.Members.{All-from_members, Contains-from_Member}
-use Rattle.ncl_cell_rules.specs.GateGraph.{AreDrivers, arcs, gate_graph}
+use Rattle.ncl_cell_rules.proofs.Terms.{All, All-from_members, All-map, AreDrivers, Contains-from_Member, IsGraph, List, NetlistData, Option, arcs, arith, gate_graph, get_or, length, length-map, slice_get_within, ℕ, ◌<◌, ◌≡◌}
 use Rattle.ncl_cell_rules.proofs.GateLaws.{arcs_read}
 
 pub IsGraph-gate_graph : (n : NetlistData) (drivers : List (Option ℕ)) → AreDrivers n drivers → IsGraph (gate_graph n drivers)

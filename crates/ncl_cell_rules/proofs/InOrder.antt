@@ -1,19 +1,5 @@
 -- Cells that stand in order as the netlist has them.
-use Rattle.std.proofs.Common.{◌≡◌, ℕ, ◌+◌, ◌<◌, ◌≤◌, List, ◌∷◌, length, get_or, Option, Some, refl, sym, ap, ◌∙◌, subst, arith, below_more, length-append}
-use Rattle.std.proofs.Math.Seq.{get_or-append_seam}
-use Rattle.std.specs.Prelude.{All, Contains}
-use Rattle.std.specs.List.{range_with_len}
-use Rattle.std.proofs.lemmas.List.{length-map, get_or_append_left}
-use Rattle.std.proofs.lemmas.List.Elements.{All-contains}
-use Rattle.std.proofs.lemmas.List.FromFn.{length-range_with_len, get_or-range_with_len}
-use Rattle.std.proofs.lemmas.Option.{slice_get_within}
-use Rattle.ncl_netlist.specs.declared.cell.Cell.{Cell}
-use Rattle.ncl_netlist.specs.Netlist.{NetlistData, IsNetlist}
-use Rattle.ncl_base.proofs.Members.{slice_get-some}
-use Rattle.ncl_graph.specs.Graph.{IsOrder, successors}
-use Rattle.ncl_cell_rules.specs.Origin.{IsGate}
-use Rattle.ncl_cell_rules.specs.GateGraph.{AreDrivers, arcs, gate_graph}
-use Rattle.ncl_cell_rules.specs.CellOrder.{IsDrivenBefore, StandsLater}
+use Rattle.ncl_cell_rules.proofs.Terms.{All, All-contains, AreDrivers, Cell, Contains, IsDrivenBefore, IsGate, IsNetlist, IsOrder, List, NetlistData, Option, Some, StandsLater, ap, arcs, arith, below_more, gate_graph, get_or, get_or-append_seam, get_or-range_with_len, get_or_append_left, length, length-append, length-map, length-range_with_len, range_with_len, refl, slice_get-some, slice_get_within, subst, successors, sym, ℕ, ◌+◌, ◌<◌, ◌∙◌, ◌∷◌, ◌≡◌, ◌≤◌}
 use Rattle.ncl_cell_rules.proofs.GateLaws.{arc_reads}
 use Rattle.ncl_cell_rules.proofs.TableSteps.{cell_read}
 

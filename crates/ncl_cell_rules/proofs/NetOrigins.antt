@@ -1,17 +1,5 @@
 -- Where the first five rules hold each net has one origin, and a completion cell reads nets of one bank's tree.
-use Rattle.std.proofs.Common.{◌≡◌, ℕ, ◌+◌, ◌<◌, length, inl, inr, refl, sym, ap, ◌∙◌, subst, arith}
-use Rattle.std.proofs.lemmas.List.Elements.{All-contains}
-use Rattle.ncl_gates.specs.declared.kind.Kind.{Kind}
-use Rattle.ncl_gates.specs.declared.cell_kind.CellKind.TheVariants.{Gate}
-use Rattle.ncl_gates.specs.Gate.{arity_of}
-use Rattle.ncl_gates.specs.Cell.{pins_of}
-use Rattle.ncl_netlist.specs.declared.ids.NetId.{NetId}
-use Rattle.ncl_netlist.specs.declared.cell.Cell.{Cell}
-use Rattle.ncl_netlist.specs.Netlist.{NetlistData, IsNetlist}
-use Rattle.ncl_cell_rules.specs.Origin.{IsCell, IsGate, A, B, IsOfBank, AcksBank, Origin, RailOf, AckOf, ComesFrom, port, rail, ack, gate, IsTreeKind, th22, th33, th44}
-use Rattle.ncl_cell_rules.specs.Rules.{IsRequest}
-use Rattle.ncl_cell_rules.specs.Free.{IsFree}
-use Rattle.ncl_base.proofs.Members.{Member, Contains-from_Member}
+use Rattle.ncl_cell_rules.proofs.Terms.{A, AckOf, AcksBank, All-contains, B, Cell, ComesFrom, Contains-from_Member, Gate, IsCell, IsFree, IsGate, IsNetlist, IsOfBank, IsRequest, IsTreeKind, Kind, Member, NetId, NetlistData, Origin, RailOf, ack, ap, arith, arity_of, gate, inl, inr, length, pins_of, port, rail, refl, subst, sym, th22, th33, th44, ℕ, ◌+◌, ◌<◌, ◌∙◌, ◌≡◌}
 use Rattle.ncl_cell_rules.proofs.Drivers.{cell_fits, same_driver}
 use Rattle.ncl_cell_rules.proofs.OriginLaws.{place_of, port_origin, register_origin, ack_origin, ack_of_bank, has_origin}
 use Rattle.ncl_cell_rules.proofs.CellTests.{same_net}

@@ -1,26 +1,8 @@
 -- The order of the cells, and the sources of the nets found along it.
-use Rattle.std.proofs.Common.{◌≡◌, ◌≢◌, ℕ, ◌<◌, List, [], ◌∷◌, ◌++◌, length, get_or, take, set, replicate, Option, Some, inl, inr, refl, sym, ap, ◌∙◌, subst, arith, get_or-set_same, get_or-set_other, length-set}
-use Rattle.std.specs.Prelude.{AllPairs, Contains, All, slice_get}
-use Rattle.std.proofs.lemmas.Bool.{cases_eq, cases_lt}
-use Rattle.std.proofs.lemmas.List.{length-map, length-replicate, length-take, get_or-replicate, get_or_default, get_or_past, get_or-take}
-use Rattle.std.proofs.lemmas.Option.{slice_get_within}
-use Rattle.ncl_netlist.specs.declared.ids.NetId.{NetId}
-use Rattle.ncl_netlist.specs.declared.cell.Cell.{Cell}
-use Rattle.ncl_netlist.specs.Netlist.{NetlistData, IsNetlist}
-use Rattle.ncl_graph.specs.Graph.{IsOrder, IsOnCycle, Leads, arc, further, successors}
-use Rattle.ncl_cell_rules.specs.Origin.{IsCell, CellAt, IsGate, ReadsNet, IsInputPort, LeadsTo}
-use Rattle.ncl_cell_rules.specs.Rules.{IsOffCycles}
-use Rattle.ncl_base.proofs.Members.{slice_get-some, Contains-from_slice_get, All-from_members, Contains-from_Member}
+use Rattle.ncl_cell_rules.proofs.Terms.{All, All-contains, All-from_members, AllPairs, AreDrivers, AreSources, AreSourcesOf, Cell, CellAt, Contains, Contains-from_Member, Contains-from_slice_get, IsCell, IsCellOrder, IsGate, IsInputPort, IsNetlist, IsOffCycles, IsOnCycle, IsOrder, IsSourceOf, Leads, LeadsTo, List, NetId, NetlistData, Option, Port, ReadsNet, Some, Source, [], ap, arc, arcs, arith, cases_eq, cases_lt, from_push, further, gate_graph, get_or, get_or-replicate, get_or-set_other, get_or-set_same, get_or-take, get_or_default, get_or_past, inl, inr, length, length-map, length-replicate, length-set, length-take, refl, replicate, set, slice_get, slice_get-some, slice_get_within, source_at, subst, successors, sym, take, ℕ, ◌++◌, ◌<◌, ◌∙◌, ◌∷◌, ◌≡◌, ◌≢◌}
 use Rattle.ncl_cell_rules.proofs.Drivers.{cell_fits, driver_of, no_cell_drives_port}
 use Rattle.ncl_cell_rules.proofs.OriginLaws.{place_of}
-use Rattle.std.proofs.lemmas.List.Elements.{All-contains}
-use Rattle.ncl_cell_rules.specs.declared.source.Source.{Source}
-use Rattle.ncl_cell_rules.specs.declared.source.Source.TheVariants.{Port}
-use Rattle.ncl_cell_rules.specs.Sources.{IsSourceOf, source_at}
-use Rattle.ncl_cell_rules.specs.GateGraph.{AreDrivers, arcs, gate_graph}
-use Rattle.ncl_cell_rules.specs.CellOrder.{IsCellOrder, AreSourcesOf, AreSources}
 use Rattle.ncl_cell_rules.proofs.GateLaws.{arc_of_reads, LeadsTo-from_Leads, Leads-from_LeadsTo}
-use Rattle.ncl_base.proofs.Growing.{from_push}
 use Rattle.ncl_cell_rules.proofs.SourceSteps.{port_source}
 
 module _ (n : NetlistData) (is : IsNetlist n) where

@@ -1,21 +1,6 @@
 -- The laws of origins: each net of a netlist has one, and what drives a net says which.
-use Rattle.std.proofs.Common.{◌≡◌, true, ℕ, ◌+◌, ◌<◌, length, get_or, Some, ◌⊎◌, inl, inr, refl, sym, ap, ◌∙◌, subst, arith}
-use Rattle.std.specs.Prelude.{slice_get}
-use Rattle.std.proofs.lemmas.List.{length-map, length-take}
-use Rattle.std.proofs.lemmas.Option.{slice_get_within, slice_get-get_or}
-use Rattle.ncl_gates.specs.declared.kind.Kind.{Kind}
-use Rattle.ncl_gates.specs.declared.cell_kind.CellKind.{CellKind}
-use Rattle.ncl_gates.specs.declared.cell_kind.CellKind.TheVariants.{Gate, Register, RegisterData, Ack}
-use Rattle.ncl_gates.specs.Cell.{is_register}
-use Rattle.ncl_gates.proofs.RegisterLaws.{register_pins_of, register_no_ack, register_no_gate}
-use Rattle.ncl_gates.specs.Cell.{pins_of}
+use Rattle.ncl_cell_rules.proofs.Terms.{Ack, AckOf, AcksBank, B, Cell, CellAt, CellKind, ComesFrom, Contains-from_slice_get, FromPort, Gate, IsAck, IsCell, IsFree, IsGate, IsInputPort, IsNetlist, IsOfBank, IsRegister, IsRequest, Kind, NetlistData, OnPin, Origin, RailOf, ReadsNet, Register, RegisterData, Some, ack, ap, arith, gate, get_or, inl, inr, is_register, length, length-map, length-take, pins_of, port, rail, refl, register_no_ack, register_no_gate, register_pins_of, slice_get, slice_get-from_Contains, slice_get-get_or, slice_get_within, subst, sym, true, ℕ, ◌+◌, ◌<◌, ◌∙◌, ◌≡◌, ◌⊎◌}
 use Rattle.ncl_netlist.specs.declared.port.Port.{Port}
-use Rattle.ncl_netlist.specs.declared.cell.Cell.{Cell}
-use Rattle.ncl_netlist.specs.Netlist.{NetlistData, IsNetlist}
-use Rattle.ncl_cell_rules.specs.Origin.{IsCell, CellAt, IsGate, IsRegister, IsAck, ReadsNet, OnPin, B, IsInputPort, IsOfBank, AcksBank, Origin, FromPort, RailOf, AckOf, ComesFrom, port, rail, ack, gate}
-use Rattle.ncl_cell_rules.specs.Rules.{IsRequest}
-use Rattle.ncl_cell_rules.specs.Free.{IsFree}
-use Rattle.ncl_base.proofs.Members.{Contains-from_slice_get, slice_get-from_Contains}
 use Rattle.ncl_cell_rules.proofs.Drivers.{cell_fits, same_driver, no_cell_drives_port, driver_of}
 
 sort_of_kind : (k : CellKind) → ((kind : Kind) × (k ≡ Gate kind)) ⊎ ((is_register k ≡ true) ⊎ (k ≡ Ack))

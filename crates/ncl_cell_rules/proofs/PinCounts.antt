@@ -1,19 +1,5 @@
 -- How many pins have a net, counted pin by pin and cell by cell.
-use Rattle.std.proofs.Common.{◌≡◌, ℕ, ◌+◌, ◌*◌, ◌<◌, ◌≤◌, List, length, take, get_or, replicate, inl, inr, ap, ◌∙◌, arith}
-use Rattle.std.specs.Prelude.{sum_by}
-use Rattle.std.proofs.lemmas.Bool.{cases_lt}
-use Rattle.std.proofs.lemmas.List.{take_all, length-replicate, get_or-replicate, get_or_past}
-use Rattle.std.proofs.lemmas.List.Sums.{sum_by_more, sum_by-le, sum_by-take-le, count_by-le-length}
-use Rattle.std.proofs.lemmas.Option.{slice_get_within, get_or_from_slice_get}
-use Rattle.ncl_netlist.specs.declared.cell.Cell.{Cell}
-use Rattle.ncl_netlist.specs.Netlist.{NetlistData, IsNetlist}
-use Rattle.ncl_gates.specs.declared.cell_kind.CellKind.{CellKind}
-use Rattle.ncl_gates.specs.declared.cell_kind.CellKind.TheVariants.{Gate, Register, RegisterData, Ack}
-use Rattle.ncl_gates.specs.Cell.{pins_of}
-use Rattle.ncl_gates.proofs.PinLaws.{pins_of-few}
-use Rattle.ncl_cell_rules.specs.Origin.{CellAt}
-use Rattle.ncl_cell_rules.specs.Rules.{pins_with, ack_pins_of}
-use Rattle.ncl_cell_rules.specs.Tables.{IsTable}
+use Rattle.ncl_cell_rules.proofs.Terms.{Ack, Cell, CellAt, CellKind, Gate, IsNetlist, IsTable, List, NetlistData, Register, RegisterData, ack_pins_of, ap, arith, cases_lt, count_by-le-length, get_or, get_or-replicate, get_or_from_slice_get, get_or_past, inl, inr, length, length-replicate, pins_of, pins_of-few, pins_with, replicate, slice_get_within, sum_by, sum_by-le, sum_by-take-le, sum_by_more, take, take_all, ℕ, ◌*◌, ◌+◌, ◌<◌, ◌∙◌, ◌≡◌, ◌≤◌}
 use Rattle.ncl_cell_rules.proofs.ReadTables.{has_pin}
 
 -- the counts of the first k cells, of which each adds to a net's count

@@ -1,13 +1,5 @@
 -- How many input pins a cell has, and that the nets on them are there.
-use Rattle.std.proofs.Common.{◌≡◌, ℕ, ◌<◌, List, length, get_or, sym, ap, subst, arith}
-use Rattle.std.specs.Prelude.{All}
-use Rattle.std.proofs.lemmas.Option.{slice_get-get_or, slice_get_within, get_or_from_slice_get}
-use Rattle.ncl_gates.specs.Cell.{pins_of}
-use Rattle.ncl_gates.proofs.RegisterLaws.{register_pins_of}
-use Rattle.ncl_netlist.specs.declared.ids.NetId.{NetId}
-use Rattle.ncl_netlist.specs.declared.cell.Cell.{Cell}
-use Rattle.ncl_netlist.specs.Netlist.{NetlistData, IsNetlist}
-use Rattle.ncl_cell_rules.specs.Origin.{IsCell, IsRegister, IsAck, OnPin}
+use Rattle.ncl_cell_rules.proofs.Terms.{All, Cell, IsAck, IsCell, IsNetlist, IsRegister, List, NetId, NetlistData, OnPin, ap, arith, get_or, get_or_from_slice_get, length, pins_of, register_pins_of, slice_get-get_or, slice_get_within, subst, sym, ℕ, ◌<◌, ◌≡◌}
 use Rattle.ncl_cell_rules.proofs.Drivers.{cell_fits}
 
 -- a net that is none

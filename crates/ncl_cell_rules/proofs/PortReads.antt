@@ -1,18 +1,6 @@
 -- Whether an input port is read, by the table of what is read.
-use Rattle.std.proofs.Common.{◌≡◌, ℕ, ◌<◌, Bool, true, false, List, length, get_or, Some, refl, sym, ap, subst, ◌∙◌, arith}
-use Rattle.std.specs.Prelude.{Contains, slice_get, nat_eq}
-use Rattle.std.proofs.lemmas.Bool.{both_ways, eq-eqb, eqb-true}
-use Rattle.std.proofs.lemmas.Option.{slice_get-get_or, slice_get_within}
-use Rattle.ncl_base.proofs.Members.{Member-from_Contains, Contains-from_Member, list_any-from_member, member_from_list_any}
-use Rattle.ncl_netlist.specs.declared.ids.NetId.{NetId}
+use Rattle.ncl_cell_rules.proofs.Terms.{AreReads, Bool, Cell, Contains, Contains-from_Member, IsNetlist, IsReadPort, List, Member-from_Contains, NetId, NetlistData, ReadsNet, Some, ap, arith, both_ways, eq-eqb, eqb-true, false, get_or, length, list_any-from_member, member_from_list_any, nat_eq, ports-le-nets, reads_test, refl, slice_get, slice_get-get_or, slice_get_within, subst, sym, true, ℕ, ◌<◌, ◌∙◌, ◌≡◌}
 use Rattle.ncl_netlist.specs.declared.port.Port.{Port}
-use Rattle.ncl_netlist.specs.declared.cell.Cell.{Cell}
-use Rattle.ncl_netlist.specs.Netlist.{NetlistData, IsNetlist}
-use Rattle.ncl_netlist.proofs.NetlistLaws.{ports-le-nets}
-use Rattle.ncl_cell_rules.specs.Origin.{ReadsNet}
-use Rattle.ncl_cell_rules.specs.Rules.{IsReadPort}
-use Rattle.ncl_cell_rules.specs.CellTests.{reads_test}
-use Rattle.ncl_cell_rules.specs.Tables.{AreReads}
 
 -- a cell that reads a net passes the test, and only such a cell does
 pub reads-passes : (net : ℕ) (c : Cell) → ReadsNet c net → reads_test net c ≡ true

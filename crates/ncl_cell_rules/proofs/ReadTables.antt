@@ -1,17 +1,6 @@
 -- Tables of what reads a net, one pin or one cell more at a time.
-use Rattle.std.proofs.Common.{◌≡◌, ℕ, ◌+◌, ◌<◌, ◌≤◌, Bool, true, false, ◌||◌, List, length, take, get_or, set, nat_eq, replicate, inl, inr, refl, sym, ap, ◌∙◌, arith, get_or-set_same, get_or-set_other}
-use Rattle.std.specs.List.{list_any}
-use Rattle.std.proofs.Math.Bool.{or-false}
-use Rattle.std.proofs.lemmas.Bool.{cases_eq, eq-eqb, ne_eqb, or_right}
-use Rattle.std.proofs.lemmas.List.{take_all}
-use Rattle.std.proofs.lemmas.List.Folds.{list_any_more}
-use Rattle.std.proofs.lemmas.List.{length-replicate, get_or-replicate}
-use Rattle.std.proofs.lemmas.Option.{slice_get_within, get_or_from_slice_get}
-use Rattle.ncl_netlist.specs.declared.ids.NetId.{NetId}
-use Rattle.ncl_netlist.specs.declared.cell.Cell.{Cell}
-use Rattle.ncl_netlist.specs.Netlist.{NetlistData}
-use Rattle.ncl_cell_rules.specs.Origin.{CellAt}
-use Rattle.ncl_cell_rules.specs.Tables.{IsTable}
+use Rattle.ncl_cell_rules.proofs.Terms.{Bool, Cell, CellAt, IsTable, List, NetId, NetlistData, ap, arith, cases_eq, eq-eqb, false, get_or, get_or-replicate, get_or-set_other, get_or-set_same, get_or_from_slice_get, inl, inr, length, length-replicate, list_any, list_any_more, ne_eqb, or-false, or_right, refl, replicate, set, slice_get_within, sym, take, take_all, true, ℕ, ◌+◌, ◌<◌, ◌||◌, ◌∙◌, ◌≡◌, ◌≤◌}
+use Rattle.std.proofs.Common.{nat_eq}
 
 -- a pin has the net
 abbrev pub has_pin : ℕ → NetId → Bool

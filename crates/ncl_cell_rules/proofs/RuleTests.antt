@@ -1,16 +1,6 @@
 -- What the test of the fourth rule asks of register cells, and that nothing else is asked.
-use Rattle.std.proofs.Common.{◌≡◌, ℕ, List, Some, inl, inr, refl, sym, ap, ◌∙◌, subst, arith}
-use Rattle.std.specs.Prelude.{slice_get}
-use Rattle.std.proofs.lemmas.Bool.{cases_lt}
-use Rattle.ncl_netlist.specs.declared.cell.Cell.{Cell}
-use Rattle.ncl_netlist.specs.Netlist.{NetlistData, IsNetlist}
-use Rattle.ncl_cell_rules.specs.Origin.{IsCell, IsRegister, OnPin, A, B, RST, IsInputPort, Origin, FromPort, RailOf, HaveSameOrigins}
-use Rattle.ncl_cell_rules.specs.Rules.{IsFromOneRail, IsFromOneAck, IsFirstOfBank, IsRegisterOfOne}
+use Rattle.ncl_cell_rules.proofs.Terms.{A, AreSources, B, Cell, FromPort, HaveSameOrigins, IsAsFirst, IsCell, IsFirstOfBank, IsFromOneAck, IsFromOneRail, IsInputPort, IsNetlist, IsRegister, IsRegisterOfOne, IsSourceOf, List, NetlistData, OnPin, Origin, RST, RailOf, Some, Source, ap, arith, cases_lt, inl, inr, refl, slice_get, source_at, subst, sym, ℕ, ◌∙◌, ◌≡◌}
 use Rattle.ncl_cell_rules.proofs.CellTests.{same_net, on_pin_each}
-use Rattle.ncl_cell_rules.specs.declared.source.Source.{Source}
-use Rattle.ncl_cell_rules.specs.Sources.{IsSourceOf, source_at}
-use Rattle.ncl_cell_rules.specs.Origins.{IsAsFirst}
-use Rattle.ncl_cell_rules.specs.CellOrder.{AreSources}
 use Rattle.ncl_cell_rules.proofs.OriginLaws.{pin_of_register}
 use Rattle.ncl_cell_rules.proofs.FirstRegisters.{first_of_bank}
 use Rattle.ncl_cell_rules.proofs.PinNumbers.{on_pin_within}

@@ -1,17 +1,7 @@
 -- The source of each net, from what drives it.
-use Rattle.std.proofs.Common.{◌≡◌, ℕ, List, [], ◌∷◌, ◌++◌, Some, None, inl, inr, ◌⊎◌, refl, sym, ap, ◌∙◌, subst, arith}
-use Rattle.std.specs.Prelude.{Contains}
-use Rattle.ncl_netlist.specs.declared.ids.NetId.{NetId}
-use Rattle.ncl_netlist.specs.declared.cell.Cell.{Cell}
-use Rattle.ncl_netlist.specs.Netlist.{NetlistData, IsNetlist}
-use Rattle.ncl_cell_rules.specs.Origin.{IsCell, IsGate, IsInputPort, IsOfBank, AcksBank, Origin, RailOf, AckOf, ComesFrom, HasOnlyOrigin, HaveSameOrigins, port, rail, ack, gate}
+use Rattle.ncl_cell_rules.proofs.Terms.{AckOf, AcksBank, Cell, ComesFrom, Contains, Contains-append_left, Contains-last, HasOnlyOrigin, HaveSameOrigins, IsCell, IsGate, IsInputPort, IsJoin, IsNetlist, IsOfBank, IsSourceOf, IsSummary, List, Many, Member, Member-from_Contains, NetId, NetlistData, None, OfNets, Origin, Port, Rail, RailOf, Some, Source, [], ack, ap, arith, from_push, gate, here, inl, inr, port, rail, refl, subst, sym, there, ℕ, ◌++◌, ◌∙◌, ◌∷◌, ◌≡◌, ◌⊎◌}
 use Rattle.ncl_cell_rules.proofs.OriginLaws.{port_origin, register_origin, ack_origin}
-use Rattle.ncl_base.proofs.Members.{Member, here, there, Member-from_Contains}
-use Rattle.ncl_cell_rules.specs.declared.source.Source.{Source}
-use Rattle.ncl_cell_rules.specs.declared.source.Source.TheVariants.{Port, Rail, Ack, Many}
-use Rattle.ncl_cell_rules.specs.Sources.{IsSummary, IsSourceOf, OfNets, IsJoin}
-use Rattle.ncl_base.proofs.Growing.{Contains-last, from_push}
-use Rattle.std.proofs.lemmas.List.Elements.{Contains-append_left}
+use Rattle.ncl_cell_rules.specs.declared.source.Source.TheVariants.{Ack}
 use Rattle.ncl_cell_rules.proofs.Summaries.{named, summary_cases, same_source, other_source, summary_moves}
 use Rattle.ncl_cell_rules.proofs.CellOrigins.{gate_origin}
 use Rattle.ncl_cell_rules.proofs.NetOrigins.{acked_is_one, bank_is_one}

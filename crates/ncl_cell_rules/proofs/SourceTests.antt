@@ -1,16 +1,6 @@
 -- What the tables tell of one net: whether it is an input port, and whether it comes from one place alone.
-use Rattle.std.proofs.Common.{◌≡◌, ℕ, ◌<◌, Bool, true, false, not, List, length, Option, None, Some, is_some, inl, inr, refl, sym, ap, subst, ◌∙◌}
-use Rattle.std.proofs.lemmas.Bool.{both_ways}
-use Rattle.ncl_netlist.specs.declared.ids.NetId.{NetId}
-use Rattle.ncl_netlist.specs.Netlist.{NetlistData, IsNetlist}
-use Rattle.ncl_base.proofs.Members.{Contains-from_slice_get}
-use Rattle.ncl_cell_rules.specs.declared.source.Source.{Source}
-use Rattle.ncl_cell_rules.specs.declared.source.Source.TheVariants.{Port, Rail, Ack, Many}
-use Rattle.ncl_cell_rules.specs.Origin.{IsInputPort, RailOf, AckOf}
-use Rattle.ncl_cell_rules.specs.Rules.{IsFromOneRail, IsFromOneAck}
-use Rattle.ncl_cell_rules.specs.Sources.{IsSourceOf, source_at}
-use Rattle.ncl_cell_rules.specs.CellOrder.{AreSources}
-use Rattle.ncl_cell_rules.specs.GateGraph.{driver_at, AreDrivers}
+use Rattle.ncl_cell_rules.proofs.Terms.{AckOf, AreDrivers, AreSources, Bool, Contains-from_slice_get, IsFromOneAck, IsFromOneRail, IsInputPort, IsNetlist, IsSourceOf, List, Many, NetId, NetlistData, None, Option, Port, Rail, RailOf, Some, Source, ap, both_ways, driver_at, false, inl, inr, is_some, length, not, refl, source_at, subst, sym, true, ℕ, ◌<◌, ◌∙◌, ◌≡◌}
+use Rattle.ncl_cell_rules.specs.declared.source.Source.TheVariants.{Ack}
 use Rattle.ncl_cell_rules.proofs.Drivers.{driver_of, no_cell_drives_port}
 use Rattle.ncl_cell_rules.proofs.OriginLaws.{place_of}
 use Rattle.ncl_cell_rules.proofs.Summaries.{named}

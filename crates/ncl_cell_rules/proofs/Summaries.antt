@@ -1,10 +1,6 @@
 -- Summaries of two sets make the summary of both.
-use Rattle.std.proofs.Common.{◌≡◌, ℕ, ◌⊎◌, inl, inr, refl, ap, Option, Some, None}
-use Rattle.ncl_cell_rules.specs.declared.source.Source.{Source}
-use Rattle.ncl_cell_rules.specs.declared.source.Source.TheVariants.{Port, Rail, Ack, Many}
-use Rattle.ncl_cell_rules.specs.Sources.{HasOnly, HasTwo, IsSummary}
-use Rattle.ncl_cell_rules.specs.Origin.{Origin, FromPort, RailOf, AckOf}
-use Rattle.ncl_netlist.specs.declared.ids.NetId.{NetId}
+use Rattle.ncl_cell_rules.proofs.Terms.{AckOf, FromPort, HasOnly, HasTwo, IsSummary, Many, NetId, None, Option, Origin, Port, Rail, RailOf, Some, Source, ap, inl, inr, refl, ℕ, ◌≡◌, ◌⊎◌}
+use Rattle.ncl_cell_rules.specs.declared.source.Source.TheVariants.{Ack}
 
 -- the origin that a source names
 abbrev pub named : Source → Option Origin

@@ -1,16 +1,6 @@
 -- Tables of nets that grow cell by cell.
-use Rattle.std.proofs.Common.{◌≡◌, ◌≢◌, ℕ, ◌+◌, ◌<◌, ◌≤◌, Bool, true, false, List, length, get_or, set, Option, Some, None, inl, inr, sym, ap, ◌∙◌, subst, arith, get_or-set_same, get_or-set_other, length-set, below_more}
-use Rattle.std.specs.Prelude.{slice_get}
-use Rattle.std.proofs.lemmas.Bool.{both_ways, cases_eq}
-use Rattle.std.proofs.lemmas.Option.{slice_get_within, slice_get-get_or}
-use Rattle.ncl_netlist.specs.declared.cell.Cell.{Cell}
-use Rattle.ncl_netlist.specs.Netlist.{NetlistData, IsNetlist}
-use Rattle.ncl_cell_rules.specs.Origin.{CellAt}
-use Rattle.ncl_base.proofs.Members.{Contains-from_slice_get}
+use Rattle.ncl_cell_rules.proofs.Terms.{AreDrivers, AreDriversBelow, AtCell, Bool, Cell, CellAt, Contains-from_slice_get, Drives, FailsFirst, IsCellOrder, IsNetlist, List, NetlistData, None, Option, Some, ap, arith, below_more, both_ways, cases_eq, driver_at, false, get_or, get_or-set_other, get_or-set_same, inl, inr, length, length-set, set, slice_get, slice_get-get_or, slice_get_within, subst, sym, true, ℕ, ◌+◌, ◌<◌, ◌∙◌, ◌≡◌, ◌≢◌, ◌≤◌}
 use Rattle.ncl_cell_rules.proofs.Drivers.{same_place, cell_fits}
-use Rattle.ncl_cell_rules.specs.Free.{AtCell, FailsFirst}
-use Rattle.ncl_cell_rules.specs.CellOrder.{IsCellOrder}
-use Rattle.ncl_cell_rules.specs.GateGraph.{Drives, driver_at, AreDriversBelow, AreDrivers}
 
 -- the table of one cell more
 pub drivers_more : (n : NetlistData) → IsNetlist n → (limit : ℕ) (drivers : List (Option ℕ)) (c : Cell) → AreDriversBelow n limit drivers → CellAt n limit c → AreDriversBelow n (limit + 1) (set drivers c.out.0 (Some limit))

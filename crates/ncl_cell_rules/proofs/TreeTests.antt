@@ -1,19 +1,6 @@
 -- Whether a cell is of a completion tree, and whether something takes its output, by the tables.
-use Rattle.std.proofs.Common.{◌≡◌, ℕ, ◌<◌, Bool, true, false, List, length, get_or, Option, None, Some, is_some, ◌⊎◌, inl, inr, refl, sym, ap, ◌∙◌}
-use Rattle.std.proofs.lemmas.Bool.{both_ways}
-use Rattle.ncl_base.proofs.Members.{Member-from_Contains, Contains-from_Member, list_any-from_member, member_from_list_any}
-use Rattle.ncl_gates.specs.Cell.{is_register}
-use Rattle.ncl_netlist.specs.declared.ids.NetId.{NetId}
-use Rattle.ncl_netlist.specs.declared.cell.Cell.{Cell}
-use Rattle.ncl_netlist.specs.Netlist.{NetlistData, IsNetlist}
-use Rattle.ncl_cell_rules.specs.declared.source.Source.{Source}
+use Rattle.ncl_cell_rules.proofs.Terms.{AckOf, AreFirsts, AreGateReads, AreUnmixed, Bool, Cell, ComesFrom, Contains-from_Member, IsAck, IsCell, IsGate, IsNetlist, IsReadByGate, IsRequest, IsSourceOf, List, Member-from_Contains, NetId, NetlistData, None, Option, Some, Source, ap, both_ways, false, first_at, gate_reads_test, get_or, inl, inr, is_register, is_some, length, list_any-from_member, member_from_list_any, refl, sym, true, ℕ, ◌<◌, ◌∙◌, ◌≡◌, ◌⊎◌}
 use Rattle.ncl_cell_rules.specs.declared.source.Source.TheVariants.{Ack}
-use Rattle.ncl_cell_rules.specs.Origin.{IsCell, IsAck, IsGate, AckOf, ComesFrom}
-use Rattle.ncl_cell_rules.specs.Rules.{IsReadByGate, IsRequest}
-use Rattle.ncl_cell_rules.specs.Sources.{IsSourceOf}
-use Rattle.ncl_cell_rules.specs.CellTests.{gate_reads_test}
-use Rattle.ncl_cell_rules.specs.Tables.{AreGateReads, AreFirsts, first_at}
-use Rattle.ncl_cell_rules.specs.Origins.{AreUnmixed}
 use Rattle.ncl_cell_rules.proofs.CellTests.{gate_reads_passes, gate_reads-from_test}
 use Rattle.ncl_cell_rules.proofs.OriginLaws.{sort_of, place_of, ack_origin}
 use Rattle.ncl_cell_rules.proofs.SourceSteps.{source_from_only, ack_source}

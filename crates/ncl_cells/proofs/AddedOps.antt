@@ -1,18 +1,5 @@
 -- Operations on signals, added to small nodes.
-use Rattle.std.proofs.Common.{◌≡◌, Bool, true, false, not, cond, ◌&&◌, ◌||◌, List, length, refl, ◌∙◌}
-use Rattle.std.specs.Prelude.{IfOk, Result}
-use Rattle.std.proofs.lemmas.Result.{IfOk-weaker}
-use Rattle.ncl_network.specs.declared.network.Signal.{Signal}
-use Rattle.ncl_network.specs.Network.{signal_value, IsSource}
-use Rattle.ncl_cells.specs.declared.small.Op.{Op}
-use Rattle.ncl_cells.specs.declared.small.Op.TheVariants.{And, Differ, Majority, Choose}
-use Rattle.ncl_cells.specs.declared.small.Small.{Small}
-use Rattle.ncl_cells.specs.declared.form.Form.{Form}
-use Rattle.ncl_cells.specs.declared.stop.Stop.{Stop}
-use Rattle.ncl_cells.specs.Smalls.{op_value, bits_of}
-use Rattle.ncl_cells.specs.Forms.{form_value, ComesTo}
-use Rattle.ncl_cells.specs.Pools.{Adds, PutsForm}
-use Rattle.ncl_cells.specs.Adding.{AddsOp}
+use Rattle.ncl_cells.proofs.Terms.{Adds, AddsOp, And, Bool, Choose, ComesTo, Differ, Form, IfOk, IfOk-weaker, IsSource, List, Majority, Op, PutsForm, Result, Signal, Small, Stop, bits_of, cond, false, form_value, length, not, op_value, refl, signal_value, true, ◌&&◌, ◌||◌, ◌∙◌, ◌≡◌}
 use Rattle.ncl_cells.proofs.Smalls.{three_bits}
 use Rattle.ncl_cells.proofs.Pools.{Adds-exists, Adds-keeps, Adds-then}
 

@@ -1,17 +1,5 @@
 -- What follows of the bits of sources.
-use Rattle.std.proofs.Common.{◌≡◌, ℕ, Bool, true, false, List, [], ◌∷◌, ◌++◌, ◌<◌, get_or, refl, sym, ap, subst}
-use Rattle.std.specs.Bool.{beq}
-use Rattle.std.proofs.lemmas.List.Elements.{All-nil, All-cons, All-push}
-use Rattle.ncl_network.specs.declared.network.SignalSource.{SignalSource}
-use Rattle.ncl_network.specs.declared.network.Node.{Node}
-use Rattle.ncl_network.specs.declared.network.Network.{Network}
-use Rattle.ncl_network.specs.Network.{source_value, node_values, ReadBefore}
-use Rattle.ncl_decomp.specs.Words.{word_of}
-use Rattle.ncl_decomp.proofs.EachWord.{at_each_word}
-use Rattle.ncl_cells.specs.declared.cone.Known.{Known}
-use Rattle.ncl_cells.specs.declared.cone.Leaves.{Leaves}
-use Rattle.ncl_cells.specs.declared.plan.Plan.{Plan}
-use Rattle.ncl_cells.specs.Cones.{Respects, IsKnown, fact, leaf_bits, Computes, ComputesAt}
+use Rattle.ncl_cells.proofs.Terms.{All-cons, All-nil, All-push, Bool, Computes, ComputesAt, IsKnown, Known, Leaves, List, Network, Node, Plan, ReadBefore, Respects, SignalSource, [], ap, at_each_word, beq, fact, false, get_or, leaf_bits, node_values, refl, source_value, subst, sym, true, word_of, ℕ, ◌++◌, ◌<◌, ◌∷◌, ◌≡◌}
 use Rattle.ncl_cells.proofs.Smalls.{bit_of_node}
 
 -- the bits of a network at a word respect its nodes

@@ -1,8 +1,5 @@
 -- The bits of turned signals.
-use Rattle.std.proofs.Common.{◌≡◌, Bool, true, false, not, cond, List, refl}
-use Rattle.ncl_network.specs.declared.network.Signal.{Signal}
-use Rattle.ncl_network.specs.Network.{source_value, signal_value}
-use Rattle.ncl_cells.specs.Forms.{turned_by}
+use Rattle.ncl_cells.proofs.Terms.{Bool, List, Signal, cond, false, not, refl, signal_value, source_value, true, turned_by, ◌≡◌}
 
 turn_twice : (turn inverted b : Bool) → cond (cond turn (not inverted) inverted) (not b) b ≡ cond turn (not (cond inverted (not b) b)) (cond inverted (not b) b)
 turn_twice true true true = refl

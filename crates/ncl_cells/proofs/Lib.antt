@@ -1,3 +1,4 @@
+mod Terms
 pub mod Smalls
 pub mod Forms
 pub mod Pools

@@ -1,25 +1,5 @@
 -- Nodes in another order have the same bits.
-use Rattle.std.proofs.Common.{◌≡◌, ℕ, suc, ◌+◌, ◌<◌, ◌^◌, Bool, false, not, cond, List, [], ◌∷◌, ◌++◌, length, map, get_or, Option, Some, None, refl, sym, ap, subst, ◌∙◌, arith, inl, inr, ◌⊎◌, zero-add}
-use Rattle.std.specs.Prelude.{All, slice_get, slice_set}
-use Rattle.std.specs.List.{AllZip}
-use Rattle.std.proofs.lemmas.Bool.{cases_eq}
-use Rattle.std.proofs.lemmas.List.{length_push, length-set, get_or-set_same, get_or-set_other, get_or_append_left, get_or_push}
-use Rattle.std.proofs.lemmas.List.Elements.{All-nil, All-cons, All-head, All-tail, All-push}
-use Rattle.std.proofs.lemmas.Option.{same_Some, slice_get_within}
-use Rattle.ncl_blif.specs.Meaning.{cover_value}
-use Rattle.ncl_blif.specs.declared.model.Lit.{Lit}
-use Rattle.ncl_network.specs.declared.network.SignalSource.{SignalSource}
-use Rattle.ncl_network.specs.declared.network.SignalSource.TheVariants.{Input, Node as FromNode, Const}
-use Rattle.ncl_network.specs.declared.network.Signal.{Signal}
-use Rattle.ncl_network.specs.declared.network.Node.{Node}
-use Rattle.ncl_network.specs.declared.network.Network.{Network}
-use Rattle.ncl_network.specs.Network.{source_value, signal_value, node_value, node_values, is_constant, IsSource}
-use Rattle.ncl_network.proofs.Walking.{node_values-push, length-node_values, ReadBefore-push}
-use Rattle.ncl_network.proofs.Marking.{node_reads}
-use Rattle.ncl_decomp.specs.Split.{IsNarrow, IsSplit}
-use Rattle.ncl_base.proofs.Tests.{All-at}
-use Rattle.ncl_cells.specs.Remade.{bit_at, IsRebuiltOf}
-use Rattle.ncl_cells.specs.Reordered.{IsMovedSource, IsMoved, AreMoved}
+use Rattle.ncl_cells.proofs.Terms.{All, All-at, All-cons, All-head, All-nil, All-push, All-tail, AllZip, AreMoved, Bool, Const, FromNode, Input, IsMoved, IsMovedSource, IsNarrow, IsRebuiltOf, IsSource, IsSplit, List, Lit, Network, Node, None, Option, ReadBefore-push, Signal, SignalSource, Some, [], ap, arith, bit_at, cases_eq, cond, cover_value, false, get_or, get_or-set_other, get_or-set_same, get_or_append_left, get_or_push, inl, inr, is_constant, length, length-node_values, length-set, length_push, map, node_reads, node_value, node_values, node_values-push, not, refl, same_Some, signal_value, slice_get, slice_get_within, slice_set, source_value, subst, suc, sym, zero-add, ℕ, ◌++◌, ◌+◌, ◌<◌, ◌^◌, ◌∙◌, ◌∷◌, ◌≡◌, ◌⊎◌}
 use Rattle.ncl_cells.proofs.Smalls.{bit_of_node}
 use Rattle.ncl_cells.proofs.Remade.{IsInOrder-narrow}
 

@@ -1,18 +1,5 @@
 -- Plans, one step further.
-use Rattle.std.proofs.Common.{◌≡◌, ℕ, ◌+◌, ◌<◌, Bool, false, List, [], ◌∷◌, ◌++◌, length, map, take, get_or, refl, sym, ap, subst, ◌∙◌, append_assoc}
-use Rattle.std.specs.Prelude.{All}
-use Rattle.std.proofs.lemmas.List.{map_push, take_more}
-use Rattle.std.proofs.lemmas.List.Elements.{All-head, All-tail, All-push}
-use Rattle.ncl_network.specs.declared.network.Signal.{Signal}
-use Rattle.ncl_network.specs.Network.{signal_value, IsSource}
-use Rattle.ncl_cells.specs.declared.small.Op.TheVariants.{And}
-use Rattle.ncl_cells.specs.declared.small.Small.{Small}
-use Rattle.ncl_cells.specs.declared.plan.Arg.{Arg}
-use Rattle.ncl_cells.specs.declared.plan.Step.{Step}
-use Rattle.ncl_cells.specs.Smalls.{op_value, bits_of}
-use Rattle.ncl_cells.specs.Pools.{IsPool, Adds}
-use Rattle.ncl_cells.specs.Adding.{AddsOp}
-use Rattle.ncl_cells.specs.Plans.{arg_value, step_value, step_values}
+use Rattle.ncl_cells.proofs.Terms.{Adds, AddsOp, All, All-head, All-push, All-tail, And, Arg, Bool, IsPool, IsSource, List, Signal, Small, Step, [], ap, append_assoc, arg_value, bits_of, false, get_or, length, map, map_push, op_value, refl, signal_value, step_value, step_values, subst, sym, take, take_more, ℕ, ◌++◌, ◌+◌, ◌<◌, ◌∙◌, ◌∷◌, ◌≡◌}
 use Rattle.ncl_cells.proofs.Pools.{Adds-exists, Adds-keeps}
 
 pub step_values-push : (bits : List Bool) (steps : List Step) (step : Step) → step_values bits (steps ++ step ∷ []) ≡ step_values bits steps ++ step_value (step_values bits steps) step ∷ []

@@ -1,22 +1,5 @@
 -- Small nodes that grow in number.
-use Rattle.std.proofs.Common.{◌≡◌, ℕ, ◌+◌, ◌<◌, ◌≤◌, Bool, false, not, cond, List, [], ◌∷◌, ◌++◌, length, map, get_or, Some, sym, ap, subst, ◌∙◌, arith, append_assoc}
-use Rattle.std.specs.Prelude.{All, slice_get}
-use Rattle.std.specs.Option.{option_map}
-use Rattle.std.proofs.lemmas.List.{map-append, map_push, get_or_push, length_push, length-map, append-nil, length-append}
-use Rattle.std.proofs.lemmas.List.Elements.{All-nil, All-push}
-use Rattle.std.proofs.lemmas.Option.{slice_get-map, slice_get_within}
-use Rattle.ncl_network.specs.declared.network.SignalSource.TheVariants.{Node as FromNode}
-use Rattle.ncl_network.specs.declared.network.Signal.{Signal}
-use Rattle.ncl_network.specs.declared.network.Node.{Node}
-use Rattle.ncl_network.specs.Network.{signal_value, node_value, node_values, is_constant, IsSource, ReadBefore}
-use Rattle.ncl_network.proofs.Walking.{node_values-push, ReadBefore-push, IsSource-more}
-use Rattle.ncl_decomp.specs.Split.{IsNarrow}
-use Rattle.ncl_decomp.proofs.Later.{node_values-append, signal_kept}
-use Rattle.ncl_cells.specs.declared.small.Small.{Small}
-use Rattle.ncl_cells.specs.declared.form.Form.TheVariants.{New}
-use Rattle.ncl_cells.specs.Smalls.{small_ins, small_node, small_value, bits_of}
-use Rattle.ncl_cells.specs.Forms.{form_value, IsFormOver}
-use Rattle.ncl_cells.specs.Pools.{IsPool, Adds}
+use Rattle.ncl_cells.proofs.Terms.{Adds, All, All-nil, All-push, Bool, FromNode, IsFormOver, IsNarrow, IsPool, IsSource, IsSource-more, List, New, Node, ReadBefore, ReadBefore-push, Signal, Small, Some, [], ap, append-nil, append_assoc, arith, bits_of, cond, false, form_value, get_or, get_or_push, is_constant, length, length-append, length-map, length_push, map, map-append, map_push, node_value, node_values, node_values-append, node_values-push, not, option_map, signal_kept, signal_value, slice_get, slice_get-map, slice_get_within, small_ins, small_node, small_value, subst, sym, ℕ, ◌++◌, ◌+◌, ◌<◌, ◌∙◌, ◌∷◌, ◌≡◌, ◌≤◌}
 use Rattle.ncl_cells.proofs.Smalls.{small_node-value, small_node-narrow, bit_of_node, length-bits_of}
 
 pub IsPool-none : (inputs : ℕ) → IsPool inputs []

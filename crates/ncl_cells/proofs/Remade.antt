@@ -1,26 +1,5 @@
 -- The nodes of a network as signals of small nodes, one node further.
-use Rattle.std.proofs.Common.{◌≡◌, ℕ, zero, suc, ◌<◌, ◌≤◌, ◌^◌, Bool, not, cond, List, [], ◌∷◌, ◌++◌, length, map, get_or, Some, refl, sym, ap, subst, ◌∙◌, arith, ⊎_elim, ◌⊎◌, inl, inr}
-use Rattle.std.specs.Prelude.{All, slice_get}
-use Rattle.std.proofs.lemmas.List.{map_push, length-map}
-use Rattle.std.proofs.lemmas.List.Elements.{All-nil, All-head, All-tail, All-push}
-use Rattle.std.proofs.lemmas.List.Sums.{sum_by-cons}
-use Rattle.std.proofs.lemmas.Option.{same_Some, slice_get_within, get_or_from_slice_get}
-use Rattle.ncl_network.specs.declared.network.Signal.{Signal}
-use Rattle.ncl_network.specs.declared.network.Node.{Node}
-use Rattle.ncl_network.specs.declared.network.Network.{Network}
-use Rattle.ncl_network.specs.Network.{source_value, signal_value, node_values, IsSource, ReadBefore}
-use Rattle.ncl_network.specs.Prune.{IsInOrder}
-use Rattle.ncl_decomp.specs.Split.{IsNarrow, IsSplit, cost_of_inputs, cost_of_nodes}
-use Rattle.ncl_decomp.proofs.Whole.{IsNarrow-cost}
-use Rattle.ncl_cells.specs.declared.small.Small.{Small}
-use Rattle.ncl_cells.specs.declared.cone.Leaves.{Leaves}
-use Rattle.ncl_cells.specs.declared.plan.Plan.{Plan}
-use Rattle.ncl_cells.specs.Smalls.{small_node, bits_of}
-use Rattle.ncl_cells.specs.Pools.{IsPool, Adds}
-use Rattle.ncl_cells.specs.Plans.{plan_value}
-use Rattle.ncl_cells.specs.Cones.{Computes}
-use Rattle.ncl_cells.specs.Forms.{turned_by}
-use Rattle.ncl_cells.specs.Remade.{plain, leaf_signals, IsImageOf, AreImagesOf, bit_at, AreRemade, IsRebuiltOf}
+use Rattle.ncl_cells.proofs.Terms.{Adds, All, All-head, All-nil, All-push, All-tail, AreImagesOf, AreRemade, Bool, Computes, IsImageOf, IsInOrder, IsNarrow, IsNarrow-cost, IsPool, IsRebuiltOf, IsSource, IsSplit, Leaves, List, Network, Node, Plan, ReadBefore, Signal, Small, Some, [], ap, arith, bit_at, bits_of, cond, cost_of_inputs, cost_of_nodes, get_or, get_or_from_slice_get, inl, inr, leaf_signals, length, length-map, map, map_push, node_values, not, plain, plan_value, refl, same_Some, signal_value, slice_get, slice_get_within, small_node, source_value, subst, suc, sum_by-cons, sym, turned_by, zero, ℕ, ⊎_elim, ◌++◌, ◌<◌, ◌^◌, ◌∙◌, ◌∷◌, ◌≡◌, ◌≤◌, ◌⊎◌}
 use Rattle.ncl_cells.proofs.Forms.{turned_by-value}
 use Rattle.ncl_cells.proofs.Pools.{IsPool-none, Adds-exists, Adds-keeps}
 use Rattle.ncl_cells.proofs.Cones.{respected}

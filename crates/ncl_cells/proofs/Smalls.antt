@@ -1,23 +1,5 @@
 -- The bits of small nodes, and that they are narrow.
-use Rattle.std.proofs.Common.{◌≡◌, ℕ, zero, suc, ◌+◌, ◌<◌, Bool, true, false, List, [], ◌∷◌, ◌++◌, length, map, get_or, Some, refl, sym, ap, subst, ◌∙◌, arith, add-zero, zero-add}
-use Rattle.std.specs.Prelude.{All, slice_get}
-use Rattle.std.proofs.lemmas.List.{get_or_push, length_push, length-map}
-use Rattle.std.proofs.lemmas.List.Elements.{All-nil, All-cons}
-use Rattle.std.proofs.lemmas.Option.{same_Some}
-use Rattle.ncl_blif.specs.Meaning.{cover_value}
-use Rattle.ncl_blif.specs.declared.model.Lit.{Lit}
-use Rattle.ncl_blif.specs.declared.model.Lit.TheVariants.{Zero, One, Dash}
-use Rattle.ncl_network.specs.declared.network.SignalSource.TheVariants.{Node as FromNode}
-use Rattle.ncl_network.specs.declared.network.Signal.{Signal}
-use Rattle.ncl_network.specs.declared.network.Node.{Node}
-use Rattle.ncl_network.specs.Network.{signal_value, node_value, node_values, is_constant, ReadBefore}
-use Rattle.ncl_network.proofs.Walking.{length-node_values}
-use Rattle.ncl_decomp.specs.Split.{IsNarrow}
-use Rattle.ncl_decomp.proofs.Later.{signals_kept, signal_kept}
-use Rattle.ncl_cells.specs.declared.small.Op.{Op}
-use Rattle.ncl_cells.specs.declared.small.Op.TheVariants.{And, Differ, Majority, Choose}
-use Rattle.ncl_cells.specs.declared.small.Small.{Small}
-use Rattle.ncl_cells.specs.Smalls.{op_value, ins_of, rows_of, small_ins, small_node, small_value, bits_of}
+use Rattle.ncl_cells.proofs.Terms.{All, All-cons, All-nil, And, Bool, Choose, Dash, Differ, FromNode, IsNarrow, List, Lit, Majority, Node, One, Op, ReadBefore, Signal, Small, Some, Zero, [], add-zero, ap, arith, bits_of, cover_value, false, get_or, get_or_push, ins_of, is_constant, length, length-map, length-node_values, length_push, map, node_value, node_values, op_value, refl, rows_of, same_Some, signal_kept, signal_value, signals_kept, slice_get, small_ins, small_node, small_value, subst, suc, sym, true, zero, zero-add, ℕ, ◌++◌, ◌+◌, ◌<◌, ◌∙◌, ◌∷◌, ◌≡◌}
 
 -- ---- the value of a small node
 

@@ -1,28 +1,5 @@
 -- Nodes that take the places of others have the same bits.
-use Rattle.std.proofs.Common.{◌≡◌, ℕ, zero, suc, ◌<◌, ◌≤◌, Bool, false, not, cond, List, [], ◌∷◌, ◌++◌, length, map, get_or, Some, refl, sym, ap, subst, ◌∙◌, arith, inl, inr, zero-add}
-use Rattle.std.specs.Prelude.{All, slice_get}
-use Rattle.std.proofs.lemmas.Bool.{cases_lt}
-use Rattle.std.proofs.lemmas.List.Elements.{All-nil, All-head, All-tail, All-push}
-use Rattle.std.proofs.lemmas.Option.{slice_get_within, slice_get-get_or}
-use Rattle.ncl_blif.specs.Meaning.{cover_value}
-use Rattle.ncl_network.specs.declared.network.SignalSource.{SignalSource}
-use Rattle.ncl_network.specs.declared.network.SignalSource.TheVariants.{Input, Node as FromNode, Const}
-use Rattle.ncl_network.specs.declared.network.Signal.{Signal}
-use Rattle.ncl_network.specs.declared.network.Node.{Node}
-use Rattle.ncl_network.specs.declared.network.Network.{Network}
-use Rattle.ncl_network.specs.Network.{source_value, signal_value, node_values, answer_of, IsSource}
-use Rattle.ncl_network.specs.Prune.{IsInOrder}
-use Rattle.ncl_network.proofs.Walking.{ReadBefore-push}
-use Rattle.ncl_network.proofs.Marking.{node_reads}
-use Rattle.ncl_decomp.specs.Split.{IsNarrow, IsSplit}
-use Rattle.ncl_decomp.specs.Words.{word_of}
-use Rattle.ncl_decomp.proofs.EachWord.{at_each_word}
-use Rattle.ncl_base.proofs.Tests.{All-at}
-use Rattle.ncl_base.proofs.Places.{push_cases}
-use Rattle.ncl_cells.specs.declared.cone.Leaves.{Leaves}
-use Rattle.ncl_cells.specs.Cones.{leaf_bits}
-use Rattle.ncl_cells.specs.Recasts.{Agrees, AgreesAt, MayStand, AreRecast}
-use Rattle.ncl_cells.specs.Remade.{IsRebuiltOf}
+use Rattle.ncl_cells.proofs.Terms.{Agrees, AgreesAt, All, All-at, All-head, All-nil, All-push, All-tail, AreRecast, Bool, Const, FromNode, Input, IsInOrder, IsNarrow, IsRebuiltOf, IsSource, IsSplit, Leaves, List, MayStand, Network, Node, ReadBefore-push, Signal, SignalSource, Some, [], answer_of, ap, arith, at_each_word, cases_lt, cond, cover_value, false, get_or, inl, inr, leaf_bits, length, map, node_reads, node_values, not, push_cases, refl, signal_value, slice_get, slice_get-get_or, slice_get_within, source_value, subst, suc, sym, word_of, zero, zero-add, ℕ, ◌++◌, ◌<◌, ◌∙◌, ◌∷◌, ◌≡◌, ◌≤◌}
 use Rattle.ncl_cells.proofs.Smalls.{bit_of_node}
 use Rattle.ncl_cells.proofs.Cones.{respected}
 use Rattle.ncl_cells.proofs.Remade.{IsInOrder-narrow}

@@ -1,14 +1,6 @@
 -- An acceptance says that the pipeline is delay-insensitive.
-use Rattle.std.proofs.Common.{◌≡◌, ℕ, Bool, List, refl, subst}
-use Rattle.ncl_shape.specs.Shape.{Shape}
-use Rattle.ncl_verdict.specs.declared.verdict.Verdict.{Verdict}
+use Rattle.ncl_check.proofs.Terms.{Accepted, Bool, IsCheckReply, IsDelayInsensitiveText, List, Outcome, Shape, Verdict, delay_insensitive, judged, judgement-sound, outcome_of, refl, refused, subst, verdict_on, ℕ, ◌≡◌}
 use Rattle.ncl_verdict.specs.declared.verdict.Verdict.TheVariants as verdict
-use Rattle.ncl_verdict.proofs.Sound.{judgement-sound}
-use Rattle.ncl_insensitivity.proofs.Headline.{delay_insensitive}
-use Rattle.ncl_check.specs.declared.reply.Outcome.{Outcome}
-use Rattle.ncl_check.specs.declared.reply.Outcome.TheVariants.{Accepted}
-use Rattle.ncl_check.specs.Reply.{outcome_of, verdict_on, IsCheckReply, refused, judged}
-use Rattle.ncl_check.specs.Headline.{IsDelayInsensitiveText}
 
 -- only the verdict that nothing is wrong is an acceptance
 pub accepted_alone : (v : Verdict) → outcome_of v ≡ Accepted → v ≡ verdict.Accepted

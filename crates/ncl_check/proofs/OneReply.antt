@@ -1,27 +1,6 @@
 -- There is at most one reply to the bytes of a file.
-use Rattle.std.proofs.Common.{◌≡◌, ℕ, Bool, false, List, length, inl, inr, refl, sym, ap, ◌∙◌, subst, arith}
-use Rattle.ncl_netlist.specs.declared.parts.Parts.{Parts}
-use Rattle.ncl_netlist.specs.declared.build_fault.BuildFault.{BuildFault}
+use Rattle.ncl_check.proofs.Terms.{Bool, Build, BuildFault, IsCheckReply, IsFaultOf, IsFaultOf-excludes, IsFaultOf-unique, IsNetlistText, IsPipelineText, IsRefusedText, IsSamePipeline, IsShapeless, IsVerdictText, List, NetlistData, Outcome, Parts, PipelineData, Reads, Shape, ap, arith, false, fault_once, first_broken_is_one, inl, inr, judged, length, net_line, netlist_of, never_both, outcome_of, parts_once, refl, refused, same_judgement, shape_is_one, shape_is_unbroken, shape_line, shapeless, subst, sym, too_long, unbuilt, unread, verdict_line, verdict_on, verdict_text, ℕ, ◌∙◌, ◌≡◌}
 use Rattle.ncl_netlist.specs.declared.build_fault.BuildFault.TheVariants as build
-use Rattle.ncl_netlist.specs.Netlist.{NetlistData}
-use Rattle.ncl_netlist.specs.Parts.{netlist_of}
-use Rattle.ncl_netlist.specs.Faults.{IsFaultOf}
-use Rattle.ncl_netlist.proofs.FaultLaws.{IsFaultOf-excludes, IsFaultOf-unique}
-use Rattle.ncl_reader.specs.declared.net_fault.NetFault.TheVariants.{Build}
-use Rattle.ncl_reader.specs.Reads.{Reads}
-use Rattle.ncl_reader.proofs.OneAnswer.{parts_once, fault_once, never_both}
-use Rattle.ncl_shape.specs.Pipeline.{PipelineData}
-use Rattle.ncl_shape.specs.Shape.{Shape}
-use Rattle.ncl_shape.specs.SamePipeline.{IsSamePipeline}
-use Rattle.ncl_shape.proofs.ShapeLaws.{shape_is_one}
-use Rattle.ncl_shape.proofs.FaultLaws.{shape_is_unbroken, first_broken_is_one}
-use Rattle.ncl_verdict.proofs.SameJudgement.{same_judgement}
-use Rattle.ncl_lines.specs.NetText.{net_line}
-use Rattle.ncl_lines.specs.ShapeText.{shape_line}
-use Rattle.ncl_lines.specs.VerdictText.{verdict_line}
-use Rattle.ncl_check.specs.declared.reply.Outcome.{Outcome}
-use Rattle.ncl_check.specs.Text.{IsNetlistText, IsPipelineText, IsShapeless, IsRefusedText, too_long, unread, unbuilt, shapeless}
-use Rattle.ncl_check.specs.Reply.{outcome_of, verdict_on, verdict_text, IsVerdictText, IsCheckReply, refused, judged}
 use Rattle.ncl_check.proofs.Stages.{are_stages, as_many_stages}
 
 -- two faults of the same parts, neither want of memory, are one

@@ -1,18 +1,7 @@
 -- What refusals tell.
-use Rattle.std.proofs.Common.{◌≡◌, ◌≢◌, ◌≤◌, ℕ, List, length, refl}
-use Rattle.ncl_base.specs.declared.source.TheConstants.{MOST_BYTES}
-use Rattle.ncl_netlist.specs.Netlist.{NetlistData, IsNetlist}
-use Rattle.ncl_reader.specs.declared.net_fault.NetFault.{NetFault}
+use Rattle.ncl_check.proofs.Terms.{CellRule, IsNetFault, IsNetlist, IsRefusedText, IsShapeFault, IsShapeless, List, MOST_BYTES, NetFault, NetlistData, NoChain, Refusal, ShapeFault, TellsLine, TooLong, TooWide, length, net_line, refl, shape_line, unbuilt, unread, ℕ, ◌≡◌, ◌≢◌, ◌≤◌}
 use Rattle.ncl_reader.specs.declared.net_fault.NetFault.TheVariants as net
-use Rattle.ncl_reader.specs.Reads.{IsNetFault}
-use Rattle.ncl_shape.specs.declared.fault.ShapeFault.{ShapeFault}
-use Rattle.ncl_shape.specs.declared.fault.ShapeFault.TheVariants.{CellRule, NoChain, TooWide, TooLong, Memory}
-use Rattle.ncl_shape.specs.Shape.{IsShapeFault}
-use Rattle.ncl_lines.specs.NetText.{net_line}
-use Rattle.ncl_lines.specs.ShapeText.{shape_line}
-use Rattle.ncl_check.specs.Text.{IsShapeless, IsRefusedText, unread, unbuilt}
-use Rattle.ncl_check.specs.Refusals.{TellsLine}
-use Rattle.ncl_check.specs.declared.text.Refusal.{Refusal}
+use Rattle.ncl_shape.specs.declared.fault.ShapeFault.TheVariants.{Memory}
 use Rattle.ncl_check.specs.declared.text.Refusal.TheVariants as refusal
 
 -- what tells one thing tells what follows from it

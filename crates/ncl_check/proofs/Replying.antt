@@ -1,15 +1,5 @@
 -- How the parts of a check come to its reply.
-use Rattle.std.proofs.Common.{◌≡◌, ℕ, Bool, List, Result, Ok, Err, IfOk, sym, subst}
-use Rattle.ncl_base.specs.declared.memory.Memory.{Memory}
-use Rattle.ncl_netlist.specs.Netlist.{NetlistData}
-use Rattle.ncl_shape.specs.Pipeline.{PipelineData}
-use Rattle.ncl_shape.specs.Shape.{Shape}
-use Rattle.ncl_check.specs.declared.reply.Outcome.TheVariants.{Accepted, Refused, NoPipeline}
-use Rattle.ncl_check.specs.declared.reply.Reply.{Reply}
-use Rattle.ncl_check.specs.Text.{IsNetlistText, IsPipelineText, IsRefusedText}
-use Rattle.ncl_check.specs.Reply.{outcome_of, verdict_on, IsVerdictText, IsCheckReply, refused, judged}
-use Rattle.ncl_check.specs.Headline.{IsDelayInsensitiveText}
-use Rattle.ncl_check.specs.Refusal.{IsWrongText}
+use Rattle.ncl_check.proofs.Terms.{Accepted, Bool, Err, IfOk, IsCheckReply, IsDelayInsensitiveText, IsNetlistText, IsPipelineText, IsRefusedText, IsVerdictText, IsWrongText, List, Memory, NetlistData, NoPipeline, Ok, PipelineData, Refused, Reply, Result, Shape, judged, outcome_of, refused, subst, sym, verdict_on, ℕ, ◌≡◌}
 use Rattle.ncl_check.proofs.Accepted.{text_works}
 use Rattle.ncl_check.proofs.Wrong.{text_wrong}
 

@@ -1,13 +1,5 @@
 -- The stages of a pipeline that has a shape.
-use Rattle.std.proofs.Common.{◌≡◌, ℕ, ◌+◌, ◌<◌, length, Some, ap, arith}
-use Rattle.std.specs.Prelude.{All, slice_get}
-use Rattle.std.proofs.lemmas.Option.{slice_get_within}
-use Rattle.ncl_base.proofs.Members.{All-from_members, Contains-from_Member, slice_get-from_Contains, slice_get-some}
-use Rattle.ncl_netlist.specs.Netlist.{NetlistData}
-use Rattle.ncl_shape.specs.Stage.{StageData, IsStage}
-use Rattle.ncl_shape.specs.Pipeline.{PipelineData}
-use Rattle.ncl_shape.specs.Shape.{Shape}
-use Rattle.ncl_shape.specs.SamePipeline.{IsSamePipeline}
+use Rattle.ncl_check.proofs.Terms.{All, All-from_members, Contains-from_Member, IsSamePipeline, IsStage, NetlistData, PipelineData, Shape, Some, StageData, ap, arith, length, slice_get, slice_get-from_Contains, slice_get-some, slice_get_within, ℕ, ◌+◌, ◌<◌, ◌≡◌}
 
 module _ (n : NetlistData) (p : PipelineData) (shape : Shape n p) where
   -- each of them is a stage

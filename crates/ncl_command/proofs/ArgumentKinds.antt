@@ -1,6 +1,5 @@
 -- What an argument is, from the dashes that it begins with.
-use Rattle.std.proofs.Common.{◌≡◌, ◌≢◌, ℕ, List, [], ◌∷◌, Bool, true, false, ◌==◌, refl, ap, ◌∙◌, eqb-true, if◌then◌else◌}
-use Rattle.ncl_command.specs.Reading.{Plain, Refused, kind_of, dashed_kind, option_kind}
+use Rattle.ncl_command.proofs.Terms.{Bool, List, Plain, Refused, [], ap, dashed_kind, eqb-true, false, if◌then◌else◌, kind_of, option_kind, refl, true, ℕ, ◌==◌, ◌∙◌, ◌∷◌, ◌≡◌, ◌≢◌}
 
 -- an argument that has bytes and no dash in front is no option
 pub plain_kind : (argument : List ℕ) → ((rest : List ℕ) → argument ≢ 45 ∷ rest) → argument ≢ [] → kind_of argument ≡ Plain

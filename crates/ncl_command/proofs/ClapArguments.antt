@@ -1,13 +1,6 @@
 -- What `clap` sees in an argument, by the kind of the argument.
-use Rattle.std.proofs.Common.{◌≡◌, ◌∙◌, ◌+◌, Bool, true, false, List, [], ◌∷◌, Option, Some, None, refl, sym, ap, ap₂, subst, length, not, ◌==◌, if◌then◌else◌, cond, eqb-true, arith}
-use Rattle.std.specs.List.{list_any, position_or_len, before_first, after_first}
-use Rattle.std.specs.Str.{bytes_eq}
-use Rattle.std.proofs.lemmas.Bool.{eqb-false}
-use Rattle.std.proofs.Math.Seq.{take-length}
+use Rattle.ncl_command.proofs.Terms.{ArgumentKind, Bool, List, Named, None, Option, Plain, Refused, Some, Text, Valued, [], after_first, ap, ap₂, arith, before_first, bytes_eq, cond, dashed_kind, eqb-false, eqb-true, false, if◌then◌else◌, is_equals, kind_of, length, list_any, long_of, not, option_kind, position_or_len, position_or_len-none, refl, short_of, subst, sym, take-length, true, valued, ◌+◌, ◌==◌, ◌∙◌, ◌∷◌, ◌≡◌}
 use Rattle.std.specs.Prelude.{take}
-use Rattle.ncl_base.proofs.Tests.{position_or_len-none}
-use Rattle.clap.specs.Lexer.{long_of, short_of}
-use Rattle.ncl_command.specs.Reading.{Text, ArgumentKind, Refused, Plain, Named, Valued, kind_of, dashed_kind, option_kind, valued, is_equals}
 
 abbrev pub dashes : Text
 dashes = 45 ∷ 45 ∷ []

@@ -1,18 +1,6 @@
 -- What `clap` does after the last argument of a form: no defaults, and the check of what is needed.
-use Rattle.std.proofs.Common.{◌≡◌, ◌∙◌, ℕ, ◌+◌, ◌++◌, Bool, true, false, List, [], ◌∷◌, Option, Some, None, map, refl, sym, ap, ap₂, not, slice_get, true≢false, ◌&&◌, ◌||◌, if◌then◌else◌}
-use Rattle.std.specs.List.{list_all, list_any, fold}
-use Rattle.std.specs.Str.{bytes_eq}
-use Rattle.std.proofs.Math.Bool.{or-false, or-true}
-use Rattle.std.proofs.Math.Path.{fun_ext}
-use Rattle.std.proofs.lemmas.Slice.Eq.{bytes_eq-Decides}
-use Rattle.clap.specs.Facts.{explicit_source}
-use Rattle.clap.specs.declared.builder.value_parser.Reading.TheVariants.{AsWritten}
-use Rattle.clap.specs.declared.parser.matches.ValueSource.TheVariants.{DefaultValue}
-use Rattle.clap.specs.Walk.{Row, Rule, at_row, default_rows, first_of, has_row, more_values, with_default}
-use Rattle.clap.specs.Takes.{is_given as is_used}
-use Rattle.clap.specs.Faults.{default_fault, given_default_fault, defaults_fault, check_fault}
-use Rattle.clap.specs.Kinds.{or_else, check_kinds}
-use Rattle.ncl_command.specs.Reading.{Text, Form, FormOption, NamedValue, is_flag, is_given, has_needed, missing_flag, value_given}
+use Rattle.clap.specs.Faults.{defaults_fault}
+use Rattle.ncl_command.proofs.Terms.{AsWritten, Bool, DefaultValue, Form, FormOption, List, NamedValue, None, Option, Row, Rule, Some, Text, [], ap, ap₂, at_row, bytes_eq, bytes_eq-Decides, check_fault, check_kinds, default_fault, default_rows, explicit_source, false, first_of, fold, fun_ext, given_default_fault, has_needed, has_row, if◌then◌else◌, is_flag, is_given, is_used, list_all, list_any, map, missing_flag, more_values, not, or-false, or-true, or_else, refl, slice_get, sym, true, true≢false, value_given, with_default, ℕ, ◌&&◌, ◌++◌, ◌+◌, ◌||◌, ◌∙◌, ◌∷◌, ◌≡◌}
 use Rattle.ncl_command.proofs.FormRules.{any_arg, arg, flag_arg, option_arg, place_args, args, shape}
 use Rattle.ncl_command.proofs.ClapRows.{rows, first_of_is, has_row_is, is_used_is}
 

@@ -1,12 +1,5 @@
 -- Which rule of a form `clap` finds by a place, an id or a name.
-use Rattle.std.proofs.Common.{◌≡◌, ◌∙◌, ℕ, ◌+◌, ◌≤◌, Bool, true, false, List, [], ◌∷◌, ◌++◌, Option, Some, None, map, refl, sym, ap, subst, is_some, if◌then◌else◌, true≢false, length, append-nil, arith}
-use Rattle.std.specs.List.{list_any, find}
-use Rattle.std.specs.Str.{bytes_eq}
-use Rattle.std.specs.Prelude.{unwrap_or}
-use Rattle.std.proofs.lemmas.Bool.{eq-eqb, ne_eqb, or_parts}
-use Rattle.std.proofs.lemmas.Slice.Eq.{bytes_eq-Decides}
-use Rattle.clap.specs.Walk.{Rule, arg_by_id, arg_by_long, arg_by_index}
-use Rattle.ncl_command.specs.Reading.{Text, Form, FormOption, has_option, option_named}
+use Rattle.ncl_command.proofs.Terms.{Bool, Form, FormOption, List, None, Option, Rule, Some, Text, [], ap, append-nil, arg_by_id, arg_by_index, arg_by_long, arith, bytes_eq, bytes_eq-Decides, eq-eqb, false, find, has_option, if◌then◌else◌, is_some, length, list_any, map, ne_eqb, option_named, or_parts, refl, subst, sym, true, true≢false, unwrap_or, ℕ, ◌++◌, ◌+◌, ◌∙◌, ◌∷◌, ◌≡◌, ◌≤◌}
 use Rattle.ncl_command.proofs.FormRules.{any_arg, place_arg, place_args, option_arg, args}
 
 -- no option has a place

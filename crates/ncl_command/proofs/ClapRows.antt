@@ -1,15 +1,6 @@
 -- The rows that `clap` keeps of the values that are given, and what it finds in them.
-use Rattle.std.proofs.Common.{◌≡◌, ◌∙◌, ℕ, Bool, true, false, List, [], ◌∷◌, ◌++◌, Option, Some, None, map, refl, sym, ap, ◌&&◌, ◌||◌, if◌then◌else◌, append-nil, true≢false}
-use Rattle.std.specs.Str.{bytes_eq}
-use Rattle.std.proofs.lemmas.List.{map-append}
-use Rattle.clap.specs.Walk.{Row, at_row, has_row, first_of, more_values, used, with_values}
-use Rattle.clap.specs.Takes.{is_given as is_used}
-use Rattle.clap.specs.Faults.{use_fault}
-use Rattle.clap.specs.declared.builder.value_parser.Reading.TheVariants.{AsWritten}
-use Rattle.clap.specs.Kinds.{or_else}
+use Rattle.ncl_command.proofs.Terms.{AsWritten, Bool, CommandLine, List, NamedValue, None, Option, Row, Some, Text, [], ap, append-nil, at_row, bytes_eq, false, first_given, first_of, given_flag, has_row, if◌then◌else◌, is_given, is_used, map, map-append, more_values, or_else, refl, sym, true, true≢false, use_fault, used, with_values, ℕ, ◌&&◌, ◌++◌, ◌||◌, ◌∙◌, ◌∷◌, ◌≡◌}
 use Rattle.clap.specs.declared.error.kind.ErrorKind.TheVariants as kind
-use Rattle.clap.specs.declared.parser.matches.ValueSource.TheVariants.{CommandLine}
-use Rattle.ncl_command.specs.Reading.{Text, NamedValue, is_given, first_given, given_flag}
 use Rattle.ncl_command.proofs.FormRules.{arg, flag_arg}
 
 -- the row of a value, and the rows of values

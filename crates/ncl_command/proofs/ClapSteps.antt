@@ -1,12 +1,6 @@
 -- One step of `clap`'s walk over the arguments of a form.
-use Rattle.std.proofs.Common.{◌≡◌, ◌∙◌, ℕ, Bool, false, List, [], ◌∷◌, Option, Some, None, refl, ap, ap₂, if◌then◌else◌, nat_lt}
-use Rattle.std.specs.Option.{option_map_or}
-use Rattle.clap.specs.Walk.{Held, Rule, Row, Step, Waiting, Walk, idle, option, next, trailing, value, after_step, arg_by_id, arg_by_index, arg_by_long}
-use Rattle.clap.specs.Walk.{long_or_other, long_word, option_word, plain_word, short_or_plain, subcommand_met, subcommand_or_other}
-use Rattle.clap.specs.Walk.{to_positional, walked, word_met}
-use Rattle.clap.specs.Faults.{bundle_fault, flag_word_fault, long_fault, other_fault, step_fault, turn_fault, word_fault}
-use Rattle.clap.specs.Kinds.{or_else}
-use Rattle.ncl_command.specs.Reading.{Text}
+use Rattle.clap.specs.Walk.{walked}
+use Rattle.ncl_command.proofs.Terms.{Bool, Held, List, None, Option, Row, Rule, Some, Step, Text, Waiting, Walk, [], after_step, ap, ap₂, arg_by_id, arg_by_index, arg_by_long, bundle_fault, false, flag_word_fault, idle, if◌then◌else◌, long_fault, long_or_other, long_word, nat_lt, next, option, option_map_or, option_word, or_else, other_fault, plain_word, refl, short_or_plain, step_fault, subcommand_met, subcommand_or_other, to_positional, trailing, turn_fault, value, word_fault, word_met, ℕ, ◌∙◌, ◌∷◌, ◌≡◌}
 use Rattle.ncl_command.proofs.ClapFinds.{same}
 use Rattle.ncl_command.proofs.ClapArguments.{IsPlain, IsLong}
 use Rattle.ncl_command.proofs.FormRules.{arg, shape}

@@ -1,11 +1,6 @@
 -- The command of a form, as its rules are added one by one.
-use Rattle.std.proofs.Common.{◌≡◌, ◌∙◌, ℕ, ◌+◌, ◌<◌, Bor, List, [], ◌∷◌, ◌++◌, map, take, length, get_or, sym, ap}
-use Rattle.std.proofs.lemmas.List.{append_assoc, map_more, map-append}
-use Rattle.clap.specs.Walk.{Rule}
-use Rattle.clap.specs.Simple.{with_rule}
-use Rattle.ncl_command.specs.Reading.{Text}
-use Rattle.ncl_command.specs.Rules.{app_with, option_rule, place_rule}
-use Rattle.ncl_command.specs.Meaning.{option_meant}
+use Rattle.ncl_command.specs.Rules.{app_with}
+use Rattle.ncl_command.proofs.Terms.{Bor, List, Rule, Text, [], ap, append_assoc, get_or, length, map, map-append, map_more, option_meant, option_rule, place_rule, sym, take, with_rule, ℕ, ◌++◌, ◌+◌, ◌<◌, ◌∙◌, ◌∷◌, ◌≡◌}
 use Rattle.ncl_command.specs.declared.form.FormOption.{FormOption}
 
 -- the rule of one place more

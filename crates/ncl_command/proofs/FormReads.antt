@@ -1,21 +1,7 @@
 -- `clap` reads the arguments of a form as the definition says.
-use Rattle.std.proofs.Common.{◌≡◌, ◌∙◌, ℕ, ◌+◌, length, min, arith, Bool, true, false, List, [], ◌∷◌, ◌++◌, Option, Some, None, refl, sym, ap, ap₂, subst, not, is_some, if◌then◌else◌, true≢false}
-use Rattle.std.specs.Prelude.{option_and_then}
-use Rattle.std.specs.List.{list_any, fold}
-use Rattle.std.specs.Option.{option_map_or}
-use Rattle.std.proofs.Math.Bool.{and-false}
-use Rattle.std.proofs.lemmas.List.{append_assoc, length-append}
-use Rattle.std.proofs.lemmas.Bool.{or_parts}
-use Rattle.clap.specs.Lexer.{usize_max}
-use Rattle.clap.specs.Walk.{Held, Rule, Row, Waiting, Walk, idle, option, finished, value as to_place, settled_rows, subcommand_met, used_by_id, walked}
-use Rattle.clap.specs.Walk.{with_default, arg_by_id, arg_by_long, is_pending, pushed, to_positional, used, after_flag, after_step, long_met, nothing_held, rows_after}
-use Rattle.clap.specs.Walk.{settled as settled_held}
-use Rattle.clap.specs.Faults.{built_fault, entered_fault, fault_of, level_fault, check_fault, defaults_fault, long_fault, positional_fault, settle_fault, step_fault, stray_fault, turn_fault, use_fault, walk_fault}
-use Rattle.clap.specs.Simple.{App, entered, matches_of, names_of}
-use Rattle.clap.specs.Kinds.{Kinds, or_else, check_kinds}
-use Rattle.ncl_command.specs.Reading.{Text, Arguments, Form, FormOption, NamedValue, Reading, ArgumentKind, Refused, Plain, Named, Valued, after_name, after_value, given_flag, is_given, has_option, option_named, has_needed, kind_of}
-use Rattle.ncl_command.specs.Reading.{is_refused, is_refused_kind, after_kind, value_kind, put_value, put_next, read_on, read_arguments, settled, with_value, with_waiting}
-use Rattle.ncl_command.specs.Rules.{app_for, app_with}
+use Rattle.ncl_command.specs.Rules.{app_with}
+use Rattle.clap.specs.Faults.{walk_fault}
+use Rattle.ncl_command.proofs.Terms.{App, ArgumentKind, Arguments, Bool, Form, FormOption, Held, Kinds, List, Named, NamedValue, None, Option, Plain, Reading, Refused, Row, Rule, Some, Text, Valued, Waiting, Walk, [], after_flag, after_kind, after_name, after_step, after_value, and-false, ap, app_for, append_assoc, ap₂, arg_by_id, arg_by_long, arith, built_fault, check_fault, check_kinds, defaults_fault, entered, entered_fault, false, fault_of, finished, fold, given_flag, has_needed, has_option, idle, if◌then◌else◌, is_given, is_pending, is_refused, is_refused_kind, is_some, kind_of, length, length-append, level_fault, list_any, long_fault, long_met, matches_of, min, names_of, not, nothing_held, option, option_and_then, option_map_or, option_named, or_else, or_parts, positional_fault, pushed, put_next, put_value, read_arguments, read_on, refl, rows_after, settle_fault, settled, settled_held, settled_rows, step_fault, stray_fault, subcommand_met, subst, sym, to_place, to_positional, true, true≢false, turn_fault, use_fault, used, used_by_id, usize_max, value_kind, walked, with_default, with_value, with_waiting, ℕ, ◌++◌, ◌+◌, ◌∙◌, ◌∷◌, ◌≡◌}
 use Rattle.ncl_command.proofs.FormRules.{AreFew, any_arg, arg, flag_arg, args, built_is, counted_on, place_arg, shape}
 use Rattle.ncl_command.proofs.ClapEnds.{check_is, defaults_pass}
 use Rattle.ncl_command.proofs.ClapFinds.{IsFound, IsPlace, known_found, next_place, no_next_place, place_found, unknown_missed}

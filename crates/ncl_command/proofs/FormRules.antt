@@ -1,15 +1,7 @@
 -- The rules by which `clap` reads a form.
-use Rattle.std.proofs.Common.{◌≡◌, ◌∙◌, ℕ, ◌+◌, ◌<◌, ◌≤◌, Bool, true, false, List, [], ◌∷◌, ◌++◌, Option, Some, None, map, refl, ap, ap₂, codes, not, is_some, ◌&&◌, length, min, arith, if◌then◌else◌}
-use Rattle.clap.specs.Lexer.{usize_max}
-use Rattle.std.specs.List.{list_any, list_all, count_by}
-use Rattle.std.proofs.Math.Nat.{min-eq_left}
-use Rattle.clap.specs.Walk.{Rule, is_early_multiple}
-use Rattle.clap.specs.Simple.{App, Shape, new_shape, built, filled, filled_from, with_index, is_in_order, is_buildable, is_ready, is_ready_leaf}
-use Rattle.clap.specs.Faults.{has_free_rules, is_free_app, is_simple_and_free}
-use Rattle.clap.specs.declared.builder.action.ArgAction.TheVariants.{Set, SetTrue}
+use Rattle.ncl_command.specs.Rules.{app_with}
+use Rattle.ncl_command.proofs.Terms.{App, Bool, Form, FormOption, List, None, Option, Rule, Set, SetTrue, Shape, Some, Text, [], ap, app_for, ap₂, arith, built, codes, count_by, false, filled, filled_from, given_flag, has_free_rules, if◌then◌else◌, is_buildable, is_early_multiple, is_free_app, is_in_order, is_ready, is_ready_leaf, is_simple_and_free, is_some, length, list_all, list_any, map, min, min-eq_left, missing_flag, new_shape, not, option_rule, place_rule, refl, true, usize_max, with_index, ℕ, ◌&&◌, ◌++◌, ◌+◌, ◌<◌, ◌∙◌, ◌∷◌, ◌≡◌, ◌≤◌}
 use Rattle.clap.specs.declared.builder.value_parser.ValueParser.TheVariants as vp
-use Rattle.ncl_command.specs.Rules.{app_for, app_with, option_rule, place_rule}
-use Rattle.ncl_command.specs.Reading.{Text, Form, FormOption, given_flag, missing_flag}
 
 -- a rule with what building fills in
 abbrev pub any_arg : Text → Option Text → Option ℕ → Bool → Bool → Rule

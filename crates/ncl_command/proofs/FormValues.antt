@@ -1,22 +1,6 @@
 -- The values that `clap` finds of a form's names.
-use Rattle.std.proofs.Math.Path.{fun_ext}
-use Rattle.std.proofs.Common.{◌≡◌, ◌∙◌, false, List, [], ◌∷◌, Option, Some, None, refl, ap, subst, inl, inr}
-use Rattle.std.specs.Prelude.{option_map}
-use Rattle.std.specs.List.{list_any}
-use Rattle.clap.specs.Faults.{fault_of}
-use Rattle.clap.specs.Kinds.{HasKind, IsAmong, Kinds}
+use Rattle.ncl_command.proofs.Terms.{ArgMatches, Arguments, Error, ErrorKind, Form, HasKind, IsAmong, Kinds, List, NamedValue, None, Option, OutOfMemory, Some, [], ap, app_for, false, fault_of, first_of, first_value-rows, found_of, fun_ext, has_option, inl, inr, is_refused, list_any, matches_of, option_map, read_arguments, refl, rows_of, subst, value_given, values_found, values_of, ◌∙◌, ◌∷◌, ◌≡◌}
 use Rattle.clap.specs.Values.{kind_of}
-use Rattle.clap.specs.declared.error.Error.{Error}
-use Rattle.clap.specs.declared.error.kind.ErrorKind.TheVariants.{OutOfMemory}
-use Rattle.clap.specs.Matches.{found_of}
-use Rattle.clap.specs.Simple.{matches_of}
-use Rattle.clap.specs.Walk.{first_of, rows_of}
-use Rattle.clap.specs.declared.error.kind.ErrorKind.{ErrorKind}
-use Rattle.clap.specs.declared.parser.matches.ArgMatches.{ArgMatches}
-use Rattle.clap.proofs.WalkLemmas.{first_value-rows}
-use Rattle.ncl_command.specs.Meaning.{values_found}
-use Rattle.ncl_command.specs.Reading.{Arguments, Form, NamedValue, has_option, is_refused, read_arguments, value_given, values_of}
-use Rattle.ncl_command.specs.Rules.{app_for}
 use Rattle.ncl_command.proofs.FormRules.{AreFew}
 use Rattle.ncl_command.proofs.ClapEnds.{value_is}
 use Rattle.ncl_command.proofs.FormReads.{Fails, Reads, form_reads}

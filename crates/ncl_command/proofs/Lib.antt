@@ -1,3 +1,4 @@
+mod Terms
 mod FormRules
 mod ClapArguments
 mod ClapRows

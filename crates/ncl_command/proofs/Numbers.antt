@@ -1,12 +1,5 @@
 -- Numbers that decimal digits say.
-use Rattle.std.proofs.Common.{◌≡◌, ℕ, ◌≤◌, nat_le, ◌&&◌, List, true, Result, Ok, length, rules, arith, ap}
-use Rattle.std.specs.List.{list_all}
-use Rattle.std.specs.Char.{is_ascii_digit}
-use Rattle.std.specs.Result.{result_ok}
-use Rattle.std.specs.Str.Parse.{ParsesUnsigned, digits_value}
-use Rattle.ncl_command.specs.Command.{is_number, number_said}
-use Rattle.std.proofs.lemmas.Bool.{and_parts, leb-true}
-use Rattle.std.proofs.lemmas.Str.Parse.{IsNumeralModel, numerals_by_value, digits_value_short, parse_gives}
+use Rattle.ncl_command.proofs.Terms.{IsNumeralModel, List, Ok, ParsesUnsigned, Result, and_parts, ap, arith, digits_value, digits_value_short, is_ascii_digit, is_number, leb-true, length, list_all, nat_le, number_said, numerals_by_value, parse_gives, result_ok, rules, true, ℕ, ◌&&◌, ◌≡◌, ◌≤◌}
 
 -- digits are what the parser of numbers takes for digits
 own : IsNumeralModel (λ ds. list_all is_ascii_digit ds ≡ true) (digits_value 10)

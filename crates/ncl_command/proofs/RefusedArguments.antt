@@ -1,9 +1,5 @@
 -- Arguments of which one is refused at once are of no form.
-use Rattle.std.proofs.Common.{◌≡◌, ◌∙◌, Bool, true, false, List, [], ◌∷◌, ◌||◌, Bor, map, Option, Some, None, refl, sym, ap, true≢false}
-use Rattle.std.specs.Prelude.{option_and_then}
-use Rattle.std.specs.List.{list_any}
-use Rattle.ncl_command.specs.Reading.{Text, Arguments, Form, NamedValue, Reading, ArgumentKind, Refused, Plain, Named, Valued, kind_of, is_refused, is_refused_kind}
-use Rattle.ncl_command.specs.Reading.{after_kind, after_argument, nothing_read, read_on, read_arguments, settled, value_kind}
+use Rattle.ncl_command.proofs.Terms.{ArgumentKind, Arguments, Bool, Bor, Form, List, Named, NamedValue, None, Option, Plain, Reading, Refused, Some, Text, Valued, [], after_argument, after_kind, ap, false, is_refused, is_refused_kind, kind_of, list_any, map, nothing_read, option_and_then, read_arguments, read_on, refl, settled, sym, true, true≢false, value_kind, ◌||◌, ◌∙◌, ◌∷◌, ◌≡◌}
 
 -- such an argument is taken nowhere
 refused_after : (form : Form) (waiting : Option Text) (left : List Text) (given : List NamedValue) (argument : Text) (k : ArgumentKind) → kind_of argument ≡ k → is_refused_kind k ≡ true

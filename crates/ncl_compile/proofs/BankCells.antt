@@ -1,18 +1,6 @@
 -- The cells of a bank by place: two register cells for each bit, its acknowledge cell, and the tree.
-use Rattle.std.proofs.Common.{◌≡◌, ℕ, zero, suc, ◌+◌, ◌*◌, List, [], ◌∷◌, ◌++◌, length, drop, get_or, Some, refl, sym, ap, ◌∙◌, subst, arith}
-use Rattle.std.specs.Prelude.{slice_get}
-use Rattle.std.proofs.lemmas.List.{length-append, length-map, drop_at, append_assoc}
-use Rattle.std.proofs.lemmas.Option.{get_or_from_slice_get}
-use Rattle.ncl_gates.specs.declared.cell_kind.CellKind.TheVariants.{Register, Ack}
-use Rattle.ncl_netlist.specs.declared.parts.NamePair.{NamePair}
-use Rattle.ncl_netlist.specs.declared.parts.PartCell.{PartCell}
-use Rattle.ncl_netlist.specs.Parts.{input_names}
-use Rattle.ncl_tree.specs.NamePairs.{pair_list}
-use Rattle.ncl_bank.specs.declared.BankParts.{BankParts}
-use Rattle.ncl_bank.specs.BankParts.{bank_pins, AreBankParts}
+use Rattle.ncl_compile.proofs.Terms.{Ack, All-at, AreBankParts, BankParts, List, NamePair, PartCell, Register, Some, [], ap, append_assoc, arith, at_map, at_of_map, bank_pins, drop, drop_at, get_or, get_or_from_slice_get, input_names, length, length-append, length-map, pair_list, refl, slice_get, subst, suc, sym, zero, ℕ, ◌*◌, ◌++◌, ◌+◌, ◌∙◌, ◌∷◌, ◌≡◌}
 use Rattle.ncl_compile.proofs.StandingCells.{StandAt, StandAt-whole, StandAt-left, StandAt-right}
-use Rattle.ncl_base.proofs.Tests.{All-at}
-use Rattle.ncl_base.proofs.Places.{at_map, at_of_map}
 
 -- the pins of the two register cells of a bit
 pins_of_bit : (request rst : List ℕ) (ins outs : List NamePair) (j : ℕ) (x y : NamePair) → slice_get ins j ≡ Some x → slice_get outs j ≡ Some y → (slice_get (bank_pins ins outs request rst) (2 * j) ≡ Some (x.zero ∷ request ∷ rst ∷ y.zero ∷ [])) × (slice_get (bank_pins ins outs request rst) (2 * j + 1) ≡ Some (x.one ∷ request ∷ rst ∷ y.one ∷ []))

@@ -1,30 +1,6 @@
 -- The names at the pins of the cells of one bank, and of one stage: what is driven, and what is read.
-use Rattle.std.proofs.Common.{◌≡◌, ℕ, zero, suc, ◌+◌, ◌-◌, ◌*◌, true≢false, List, [], ◌∷◌, ◌++◌, length, map, take, get_or, inl, inr, ◌⊎◌, sym, ap, ◌∙◌, subst, arith}
-use Rattle.std.specs.Prelude.{Contains, slice_index_or}
-use Rattle.std.proofs.lemmas.Bool.{cases_Bool}
-use Rattle.std.proofs.lemmas.Option.{slice_get_within}
-use Rattle.ncl_base.proofs.Members.{Member, here, there, member_cases, Member-append_left, Member-append_right, Member-append_cases, Member-map, member_of_map, Member-from_Contains, Contains-from_Member, slice_get-some}
-use Rattle.ncl_gates.proofs.PinLaws.{pins_of-some}
-use Rattle.ncl_gates.specs.Cell.{pins_of}
-use Rattle.ncl_gates.specs.declared.cell_kind.CellKind.TheVariants.{Register}
-use Rattle.ncl_netlist.specs.declared.parts.NamePair.{NamePair}
-use Rattle.ncl_netlist.specs.declared.parts.PartCell.{PartCell}
-use Rattle.ncl_netlist.specs.Names.{same_name}
-use Rattle.ncl_netlist.specs.Parts.{HasAllPins, input_names, output_name}
-use Rattle.ncl_netlist.proofs.NameLists.{equal_names, same_itself}
-use Rattle.ncl_network.specs.declared.network.Network.{Network}
-use Rattle.ncl_tree.specs.NamePairs.{pair_list, pair_names}
-use Rattle.ncl_tree.specs.PartNames.{IsPartName}
-use Rattle.ncl_rails.specs.Naming.{names_known}
-use Rattle.ncl_rails.specs.declared.StageParts.{StageParts}
-use Rattle.ncl_rails.specs.StageParts.{AreStageParts}
-use Rattle.ncl_bank.specs.declared.BankParts.{BankParts}
-use Rattle.ncl_bank.specs.BankParts.{bank_pins, IsTreeCell, AreBankParts}
-use Rattle.ncl_assembly.proofs.ListPlaces.{member_at, place_of_member, member_of_flat_map}
+use Rattle.ncl_compile.proofs.Terms.{All-member, AreBankParts, AreStageParts, BankParts, Contains, Contains-from_Member, HasAllPins, IsPartName, IsTreeCell, List, Member, Member-append_cases, Member-append_left, Member-append_right, Member-flat_map, Member-from_Contains, Member-map, NamePair, Network, PartCell, Register, StageParts, [], ap, arith, bank_pins, cases_Bool, divided_at, equal_names, get_or, here, inl, input_names, inr, length, map, member_at, member_cases, member_of_flat_map, member_of_map, names_known, output_name, pair_list, pair_names, pins_of, pins_of-some, place_of_member, same_itself, same_name, slice_get-some, slice_get_within, slice_index_or, subst, suc, sym, take, there, true≢false, zero, ℕ, ◌*◌, ◌++◌, ◌+◌, ◌-◌, ◌∙◌, ◌∷◌, ◌≡◌, ◌⊎◌}
 use Rattle.ncl_compile.proofs.BankCells.{register_zero, register_one}
-use Rattle.ncl_base.proofs.Tests.{All-member}
-use Rattle.ncl_base.proofs.Places.{divided_at}
-use Rattle.ncl_base.proofs.Joined.{Member-flat_map}
 
 -- a member of a list is one of the first, or the last
 last_cases : {X : Type 0} (xs : List X) (k : ℕ) (d x : X) → length xs ≡ suc k → Member x xs → Member x (take k xs) ⊎ (get_or xs k d ≡ x)

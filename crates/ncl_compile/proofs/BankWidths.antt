@@ -1,19 +1,5 @@
 -- The widths of the banks before, between and after models.
-use Rattle.std.proofs.Common.{◌≡◌, ℕ, zero, suc, ◌-◌, ◌<◌, ◌≤◌, List, [], ◌∷◌, length, Some, inl, inr, ◌⊎◌, refl, sym, ap, ◌∙◌, arith}
-use Rattle.std.specs.Prelude.{slice_get, slice_index}
-use Rattle.std.proofs.lemmas.Bool.{cases_lt}
-use Rattle.std.proofs.lemmas.Option.{slice_get_within}
-use Rattle.ncl_base.specs.declared.word.TheConstants.{MOST_BITS}
-use Rattle.ncl_base.proofs.Members.{slice_get-some}
-use Rattle.ncl_base.proofs.Tests.{All-at}
-use Rattle.ncl_blif.specs.declared.model.Model.{Model}
-use Rattle.ncl_blif.specs.Meaning.{width_of}
-use Rattle.ncl_blif.specs.Model.{IsModel, AreJoined, AreModels}
-use Rattle.ncl_tree.specs.NamePairs.{pair_names, IsFreeOf}
-use Rattle.ncl_rails.specs.declared.StageParts.{StageParts}
-use Rattle.ncl_compile.specs.Size.{widths_of, IsSlim, CanBeCompiled}
-use Rattle.ncl_compile.specs.InnerNames.{bank_prefix}
-use Rattle.ncl_compile.specs.Pieces.{AreStages}
+use Rattle.ncl_compile.proofs.Terms.{All-at, AreJoined, AreModels, AreStages, CanBeCompiled, IsFreeOf, IsModel, IsSlim, List, MOST_BITS, Model, Some, StageParts, [], ap, arith, bank_prefix, cases_lt, inl, inr, length, pair_names, refl, slice_get, slice_get-some, slice_get_within, slice_index, suc, sym, width_of, widths_of, zero, ℕ, ◌-◌, ◌<◌, ◌∙◌, ◌∷◌, ◌≡◌, ◌≤◌, ◌⊎◌}
 use Rattle.ncl_compile.proofs.CallLaws.{outputs_free}
 
 -- the bank before a model is as wide as its inputs

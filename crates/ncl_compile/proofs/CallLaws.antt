@@ -1,25 +1,5 @@
 -- What the calls for a bank and for a stage ask of names.
-use Rattle.std.proofs.Common.{◌≡◌, ◌≢◌, ℕ, zero, suc, ◌<◌, ◌≤◌, List, [], ◌∷◌, ◌++◌, length, map, inl, inr, ◌⊎◌, refl, sym, ap, ◌∙◌, subst, arith}
-use Rattle.std.specs.Prelude.{Contains, codes, ◌==◌}
-use Rattle.std.specs.List.{range_with_len}
-use Rattle.std.proofs.lemmas.Bool.{cond_both, eqb-false}
-use Rattle.std.proofs.lemmas.List.FromFn.{length-map-range_with_len}
-use Rattle.ncl_base.specs.declared.word.TheConstants.{MOST_BITS}
-use Rattle.ncl_base.proofs.Members.{Member, member_cases, Member-append_cases, member_of_map, Member-from_Contains}
-use Rattle.ncl_base.proofs.Tests.{All-member}
-use Rattle.ncl_netlist.specs.declared.parts.NamePair.{NamePair}
-use Rattle.ncl_netlist.specs.declared.parts.PartCell.{PartCell}
-use Rattle.ncl_netlist.specs.Parts.{output_name}
-use Rattle.ncl_network.specs.declared.network.Network.{Network}
-use Rattle.ncl_decomp.specs.Split.{IsSplit}
-use Rattle.ncl_tree.specs.NamePairs.{pair_names, IsFreeOf}
-use Rattle.ncl_tree.specs.PartNames.{IsPartName}
-use Rattle.ncl_rails.specs.Naming.{names_known}
-use Rattle.ncl_rails.specs.declared.StageParts.{StageParts}
-use Rattle.ncl_rails.specs.StageParts.{CanBeStage, AreStageParts}
-use Rattle.ncl_bank.specs.BankParts.{CanBeBank}
-use Rattle.ncl_compile.specs.Ports.{port_pair, input_pairs, output_pairs}
-use Rattle.ncl_compile.specs.InnerNames.{numbered, bank_prefix, stage_prefix, inner_pair, inner_pairs, pairs_driven, root_name, request_name}
+use Rattle.ncl_compile.proofs.Terms.{All-member, AreStageParts, CanBeBank, CanBeStage, Contains, IsFreeOf, IsPartName, IsSplit, List, MOST_BITS, Member, Member-append_cases, Member-from_Contains, NamePair, Network, PartCell, StageParts, [], ap, arith, bank_prefix, codes, cond_both, eqb-false, inl, inner_pair, inner_pairs, input_pairs, inr, length, length-map-range_with_len, map, member_cases, member_of_map, names_known, numbered, output_name, output_pairs, pair_names, pairs_driven, port_pair, range_with_len, refl, request_name, root_name, stage_prefix, subst, suc, sym, zero, ℕ, ◌++◌, ◌<◌, ◌==◌, ◌∙◌, ◌∷◌, ◌≡◌, ◌≢◌, ◌≤◌, ◌⊎◌}
 use Rattle.ncl_compile.proofs.NameLaws.{AreApart, differ_from_apart, apart_more, BeginsWith, name_at, port_begins, same_port, inner_begins, same_inner, same_numbered, name_of_pairs, numbered_apart}
 
 -- the first byte of a name

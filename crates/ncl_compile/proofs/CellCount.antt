@@ -1,17 +1,5 @@
 -- How many cells a compiled netlist has: at most eight for each unit of the size of its models.
-use Rattle.std.proofs.Common.{◌≡◌, ℕ, zero, suc, ◌+◌, ◌*◌, ◌<◌, ◌≤◌, List, [], ◌∷◌, length, Some, sum, sum_by, refl, ap, arith}
-use Rattle.std.specs.Prelude.{slice_get, slice_index}
-use Rattle.std.specs.List.{flat_map}
-use Rattle.std.proofs.lemmas.List.{length-append}
-use Rattle.std.proofs.lemmas.List.Sums.{sum_by-cons}
-use Rattle.ncl_blif.specs.declared.model.Model.{Model}
-use Rattle.ncl_blif.specs.Model.{AreModels}
-use Rattle.ncl_network.specs.Network.{weight_of_model}
-use Rattle.ncl_netlist.specs.declared.parts.Parts.{Parts}
-use Rattle.ncl_rails.specs.declared.StageParts.{StageParts}
-use Rattle.ncl_bank.specs.declared.BankParts.{BankParts}
-use Rattle.ncl_compile.specs.Size.{widths_of, compile_size, CanBeCompiled}
-use Rattle.ncl_compile.specs.Pieces.{IsPutTogether}
+use Rattle.ncl_compile.proofs.Terms.{AreModels, BankParts, CanBeCompiled, IsPutTogether, List, Model, Parts, Some, StageParts, [], ap, arith, compile_size, flat_map, length, length-append, refl, slice_get, slice_index, suc, sum, sum_by, sum_by-cons, weight_of_model, widths_of, zero, ℕ, ◌*◌, ◌+◌, ◌<◌, ◌∷◌, ◌≡◌, ◌≤◌}
 use Rattle.ncl_compile.proofs.BankWidths.{width_before, width_after}
 use Rattle.ncl_compile.proofs.PartsAssembled.{bank_fact}
 

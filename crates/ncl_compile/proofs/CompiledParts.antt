@@ -1,32 +1,5 @@
 -- A netlist of parts that models are put together of is compiled from them.
-use Rattle.std.proofs.Common.{◌≡◌, ℕ, false, ◌≤◌, List, [], ◌∷◌, ◌++◌, length, map, refl, sym, ap, ◌∙◌, subst, arith}
-use Rattle.std.specs.Prelude.{All, Contains, codes}
-use Rattle.std.proofs.lemmas.List.{length-map}
-use Rattle.std.proofs.lemmas.List.FromFn.{length-map-range_with_len}
-use Rattle.ncl_base.specs.declared.source.TheConstants.{MOST_BYTES}
-use Rattle.ncl_base.proofs.Members.{Member, here, there, Member-append_left, Member-append_right, Contains-from_Member, All-from_members}
-use Rattle.ncl_blif.specs.declared.model.Model.{Model}
-use Rattle.ncl_blif.specs.Meaning.{width_of}
-use Rattle.ncl_blif.specs.Model.{AreModels}
-use Rattle.ncl_gates.specs.Cell.{is_data_register}
-use Rattle.ncl_netlist.specs.declared.cell.Cell.{Cell}
-use Rattle.ncl_netlist.specs.declared.port.Port.{Port}
-use Rattle.ncl_netlist.specs.declared.parts.NamePair.{NamePair}
-use Rattle.ncl_netlist.specs.declared.parts.Parts.{Parts}
-use Rattle.ncl_netlist.specs.Netlist.{IsNetlist}
-use Rattle.ncl_netlist.specs.Parts.{cell_of, nets_of, netlist_of, port_names}
-use Rattle.ncl_shape.specs.Pipeline.{PipelineData}
-use Rattle.ncl_shape.specs.Shape.{Shape}
-use Rattle.ncl_rails.specs.Naming.{named_pair}
-use Rattle.ncl_tree.specs.NamePairs.{pair_names}
-use Rattle.ncl_writer.specs.Names.{is_plain}
-use Rattle.ncl_writer.specs.Text.{text_of}
-use Rattle.ncl_assembly.proofs.AssembledShape.{Shape-from_assembled}
-use Rattle.ncl_assembly.proofs.CellsAreUnmixed.{no_data_cell}
-use Rattle.ncl_compile.specs.Size.{CanBeCompiled}
-use Rattle.ncl_compile.specs.Compiled.{IsPlain, answer_width, Compiled}
-use Rattle.ncl_compile.specs.Ports.{port_pair, input_pairs, output_pairs, names_of_rails}
-use Rattle.ncl_compile.specs.Pieces.{IsPutTogether}
+use Rattle.ncl_compile.proofs.Terms.{All, All-from_members, AreModels, CanBeCompiled, Cell, Compiled, Contains, Contains-from_Member, IsNetlist, IsPlain, IsPutTogether, List, MOST_BYTES, Member, Member-append_left, Member-append_right, Model, NamePair, Parts, PipelineData, Port, Shape, Shape-from_assembled, [], answer_width, ap, arith, cell_of, codes, false, here, input_pairs, is_data_register, is_plain, length, length-map, length-map-range_with_len, map, named_pair, names_of_rails, netlist_of, nets_of, no_data_cell, output_pairs, pair_names, port_names, port_pair, refl, subst, sym, text_of, there, width_of, ℕ, ◌++◌, ◌∙◌, ◌∷◌, ◌≡◌, ◌≤◌}
 use Rattle.ncl_compile.proofs.CellCount.{few_cells}
 use Rattle.ncl_compile.proofs.Numbering.{pipeline_of}
 use Rattle.ncl_compile.proofs.NumberedNames.{net_number, pins_of_parts, name_of_number}

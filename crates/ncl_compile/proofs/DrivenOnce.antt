@@ -1,25 +1,6 @@
 -- Where the outputs of cells differ, none is an input port, and each name is one or the other, each net has one driver.
-use Rattle.std.proofs.Common.{◌≡◌, ◌≢◌, ℕ, zero, suc, ◌+◌, ◌<◌, Bool, true, false, true≢false, cond, if◌then◌else◌, List, [], ◌∷◌, ◌++◌, length, map, take, get_or, Some, inl, inr, ◌⊎◌, refl, sym, ap, ◌∙◌, subst, count_by, nat_eq, arith}
-use Rattle.std.specs.Prelude.{slice_get, slice_index}
-use Rattle.std.specs.List.{flat_map}
-use Rattle.std.proofs.lemmas.Bool.{eq-eqb, eqb-true, cases_Bool, cases_lt, cond-true, cond-false}
-use Rattle.std.proofs.lemmas.List.{get_or-take, length-take, length-map, get_or_past}
-use Rattle.std.proofs.lemmas.List.Sums.{sum_by-cons}
-use Rattle.std.proofs.lemmas.Option.{slice_get_within, get_or_from_slice_get}
-use Rattle.ncl_base.proofs.Lists.{pairs-head, pairs-tail}
-use Rattle.ncl_base.proofs.Members.{Member, here, there, member_cases, Member-get_or, slice_get-some, list_any-from_member, member_from_list_any}
-use Rattle.ncl_netlist.specs.declared.port.Port.{Port}
-use Rattle.ncl_netlist.specs.declared.cell.Cell.{Cell}
-use Rattle.ncl_netlist.specs.declared.parts.PartCell.{PartCell}
-use Rattle.ncl_netlist.specs.declared.parts.Parts.{Parts}
-use Rattle.ncl_netlist.specs.Faults.{drivers_at}
-use Rattle.ncl_netlist.specs.Names.{AllDiffer, same_name, name_number}
-use Rattle.ncl_netlist.specs.Netlist.{drives}
-use Rattle.ncl_netlist.specs.Parts.{port_names, output_name, nets_of, cell_of}
-use Rattle.ncl_netlist.proofs.NameLists.{equal_names, same_itself, name_number-get_or, get_or-name_number, AllDiffer-once_each, list_any-once_each, take-once_each}
-use Rattle.ncl_assembly.proofs.ListPlaces.{place_of_member, member_at}
+use Rattle.ncl_compile.proofs.Terms.{AllDiffer, AllDiffer-once_each, Bool, Cell, List, Member, Member-get_or, PartCell, Parts, Port, Some, [], ap, arith, at_map, cases_Bool, cases_lt, cell_of, cond, cond-false, cond-true, count_by, drivers_at, drives, eq-eqb, eqb-true, equal_names, false, flat_map, get_or, get_or-name_number, get_or-take, get_or_from_slice_get, get_or_past, here, if◌then◌else◌, inl, inr, length, length-map, length-take, list_any-from_member, list_any-once_each, map, member_at, member_cases, member_from_list_any, name_number, name_number-get_or, nat_eq, nets_of, output_name, pairs-head, pairs-tail, place_of_member, port_names, refl, same_itself, same_name, slice_get, slice_get-some, slice_get_within, slice_index, subst, suc, sum_by-cons, sym, take, take-once_each, there, true, true≢false, zero, ℕ, ◌++◌, ◌+◌, ◌<◌, ◌∙◌, ◌∷◌, ◌≡◌, ◌≢◌, ◌⊎◌}
 use Rattle.ncl_compile.proofs.NameLaws.{AreApart}
-use Rattle.ncl_base.proofs.Places.{at_map}
 
 -- how many of some cells pass a test that one name passes
 module _ {X Y : Type 0} (name_of : X → List ℕ) (made : X → Y) (test : Y → Bool) (x : List ℕ) (right : (c : X) → name_of c ≡ x → test (made c) ≡ true) (only : (c : X) → test (made c) ≡ true → name_of c ≡ x) where

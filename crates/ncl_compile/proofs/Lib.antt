@@ -1,3 +1,4 @@
+mod Terms
 pub mod StageFunctions
 pub mod SizeLaws
 pub mod NameLaws

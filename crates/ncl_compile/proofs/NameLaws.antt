@@ -1,17 +1,6 @@
 -- The names of ports, rails and roots: which differ, and what they begin with.
-use Rattle.std.proofs.Common.{◌≡◌, ◌≢◌, ℕ, zero, suc, ◌+◌, ◌/◌, ◌%◌, ◌^◌, ◌<◌, ◌≤◌, Bool, true, false, List, [], ◌∷◌, ◌++◌, map, inl, inr, refl, sym, ap, ◌∙◌, arith}
-use Rattle.std.specs.Prelude.{decimal}
-use Rattle.std.specs.List.{range_with_len}
-use Rattle.std.proofs.lemmas.Fmt.{decimal_is_IsNumeral}
-use Rattle.std.proofs.lemmas.List.{append_assoc, same_from_push}
-use Rattle.std.proofs.lemmas.List.Kept.{AllPairs-cons}
-use Rattle.std.specs.Str.Parse.{digits_value}
-use Rattle.ncl_base.proofs.Members.{Member, member_cases, All-from_members}
-pub use Rattle.ncl_bank.proofs.Apart.{AreApart, apart_from_differ, differ_from_apart}
-use Rattle.ncl_netlist.specs.declared.parts.NamePair.{NamePair}
-use Rattle.ncl_tree.specs.NamePairs.{pair_names}
-use Rattle.ncl_compile.specs.Ports.{port_pair}
-use Rattle.ncl_compile.specs.InnerNames.{three_digits, numbered, inner_pair}
+pub use Rattle.ncl_compile.proofs.Terms.{AreApart, apart_from_differ, differ_from_apart}
+use Rattle.ncl_compile.proofs.Terms.{All-from_members, AllPairs-cons, Bool, List, Member, NamePair, [], ap, append_assoc, arith, decimal, decimal_is_IsNumeral, digits_value, false, inl, inner_pair, inr, map, member_cases, numbered, pair_names, port_pair, range_with_len, refl, same_from_push, suc, sym, three_digits, true, zero, ℕ, ◌%◌, ◌++◌, ◌+◌, ◌/◌, ◌<◌, ◌^◌, ◌∙◌, ◌∷◌, ◌≡◌, ◌≢◌, ◌≤◌}
 
 -- one name more that is none of them
 pub apart_more : (x : List ℕ) (names : List (List ℕ)) → ((y : List ℕ) → Member y names → x ≢ y) → AreApart names → AreApart (x ∷ names)

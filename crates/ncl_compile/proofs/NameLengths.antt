@@ -1,28 +1,5 @@
 -- How long the names of a compiled netlist are: at most eleven bytes, and six for ports.
-use Rattle.std.proofs.Common.{ℕ, zero, suc, ◌<◌, ◌≤◌, Bool, true, false, List, [], ◌∷◌, length, map, inl, inr, sym, ap, subst, arith}
-use Rattle.std.specs.Prelude.{All, codes, decimal, slice_index, ◌==◌}
-use Rattle.std.specs.List.{range_with_len}
-use Rattle.std.proofs.lemmas.Bool.{cond_both}
-use Rattle.std.proofs.lemmas.Fmt.{length-decimal-le}
-use Rattle.std.proofs.lemmas.List.{length-append}
-use Rattle.std.proofs.lemmas.Option.{slice_get_within}
-use Rattle.ncl_base.specs.declared.word.TheConstants.{MOST_BITS}
-use Rattle.ncl_base.proofs.Members.{Member, member_of_map, All-from_members}
-use Rattle.ncl_blif.specs.declared.model.Model.{Model}
-use Rattle.ncl_blif.specs.Meaning.{width_of}
-use Rattle.ncl_blif.specs.Model.{AreModels}
-use Rattle.ncl_netlist.specs.declared.cell.Cell.{Cell}
-use Rattle.ncl_netlist.specs.declared.parts.PartCell.{PartCell}
-use Rattle.ncl_netlist.specs.declared.parts.Parts.{Parts}
-use Rattle.ncl_netlist.specs.Netlist.{IsNetlist}
-use Rattle.ncl_netlist.specs.Parts.{output_name, port_names, cell_of, nets_of, netlist_of}
-use Rattle.ncl_tree.specs.NamePairs.{pair_names}
-use Rattle.ncl_tree.specs.PartNames.{IsPartName}
-use Rattle.ncl_compile.specs.Size.{widths_of, CanBeCompiled}
-use Rattle.ncl_compile.specs.Compiled.{answer_width}
-use Rattle.ncl_compile.specs.Ports.{port_pair, output_pairs}
-use Rattle.ncl_compile.specs.InnerNames.{numbered, inner_pair, inner_pairs, root_name}
-use Rattle.ncl_compile.specs.Pieces.{IsPutTogether}
+use Rattle.ncl_compile.proofs.Terms.{All, All-from_members, AreModels, Bool, CanBeCompiled, Cell, IsNetlist, IsPartName, IsPutTogether, List, MOST_BITS, Member, Model, PartCell, Parts, [], answer_width, ap, arith, cell_of, codes, cond_both, decimal, false, inl, inner_pair, inner_pairs, inr, length, length-append, length-decimal-le, map, member_of_map, netlist_of, nets_of, numbered, output_name, output_pairs, pair_names, port_names, port_pair, range_with_len, root_name, slice_get_within, slice_index, subst, suc, sym, true, width_of, widths_of, zero, ℕ, ◌<◌, ◌==◌, ◌∷◌, ◌≤◌}
 use Rattle.ncl_compile.proofs.NameLaws.{name_at, name_of_pairs}
 use Rattle.ncl_compile.proofs.NetDrivers.{bank_or_stage, bank_name, bank_drives, stage_name, stage_drives, of_port, net_sort, outs_of, in_few, widths_few}
 

@@ -1,17 +1,7 @@
 -- The bank or stage that a name belongs to: names of different ones differ, as do those of banks, of stages and of inputs.
-use Rattle.std.proofs.Common.{◌≡◌, ◌≢◌, ℕ, zero, suc, ◌+◌, ◌-◌, ◌*◌, ◌/◌, ◌%◌, ◌<◌, Bool, true, false, if◌then◌else◌, List, [], ◌∷◌, ◌++◌, Some, inl, inr, ◌⊎◌, refl, sym, ap, ◌∙◌, subst, arith}
-use Rattle.std.specs.Prelude.{◌==◌, codes, slice_get}
-use Rattle.std.specs.List.{flat_map}
-use Rattle.std.proofs.lemmas.Bool.{cond_both, eqb-true}
-use Rattle.ncl_base.proofs.Members.{Member}
-use Rattle.ncl_tree.specs.NamePairs.{pair_names}
-use Rattle.ncl_tree.specs.PartNames.{IsPartName}
-use Rattle.ncl_assembly.proofs.ListPlaces.{member_of_flat_map}
-use Rattle.ncl_compile.specs.Ports.{port_pair, output_pairs}
-use Rattle.ncl_compile.specs.InnerNames.{numbered, bank_prefix, stage_prefix, inner_pair, inner_pairs, pairs_driven, root_name}
+use Rattle.ncl_compile.proofs.Terms.{AllPairs-append, Bool, IsPartName, List, Member, Some, [], ap, arith, bank_prefix, codes, cond_both, eqb-true, false, flat_map, if◌then◌else◌, inl, inner_pair, inner_pairs, inr, member_of_flat_map, numbered, output_pairs, pair_names, pairs_driven, port_pair, refl, root_name, slice_get, stage_prefix, subst, suc, sym, true, zero, ℕ, ◌%◌, ◌*◌, ◌++◌, ◌+◌, ◌-◌, ◌/◌, ◌<◌, ◌==◌, ◌∙◌, ◌∷◌, ◌≡◌, ◌≢◌, ◌⊎◌}
 use Rattle.ncl_compile.proofs.NameLaws.{AreApart, name_at, port_begins, name_of_pairs}
 use Rattle.ncl_compile.proofs.CallLaws.{first_of}
-use Rattle.ncl_base.proofs.Tests.{AllPairs-append}
 
 -- the place whose number three digits say
 abbrev digits_said : List ℕ → ℕ

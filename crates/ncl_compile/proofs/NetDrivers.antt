@@ -1,34 +1,6 @@
 -- What the nets of a compiled netlist are called: each has the name of a port, or of what a cell drives. So all names are
 -- plain, and no cell has the name of a net.
-use Rattle.std.proofs.Common.{◌≡◌, ℕ, ◌<◌, ◌≤◌, true, List, [], ◌∷◌, ◌++◌, length, map, get_or, Some, inl, inr, ◌⊎◌, refl, sym, ap, ◌∙◌, subst, arith}
-use Rattle.std.specs.Prelude.{All, Contains, codes, slice_get, slice_index, ◌==◌}
-use Rattle.std.specs.List.{flat_map, range_with_len}
-use Rattle.std.proofs.lemmas.Bool.{cond_both}
-use Rattle.std.proofs.lemmas.Option.{slice_get_within, get_or_from_slice_get}
-use Rattle.ncl_base.specs.declared.word.TheConstants.{MOST_BITS}
-use Rattle.ncl_base.proofs.Members.{Member, member_cases, Member-append_right, Member-append_cases, Member-map, member_of_map, Member-from_Contains, Contains-from_Member, All-from_members}
-use Rattle.ncl_blif.specs.declared.model.Model.{Model}
-use Rattle.ncl_blif.specs.Meaning.{width_of}
-use Rattle.ncl_blif.specs.Model.{AreModels}
-use Rattle.ncl_netlist.specs.declared.cell.Cell.{Cell}
-use Rattle.ncl_netlist.specs.declared.port.Port.{Port}
-use Rattle.ncl_netlist.specs.declared.parts.NamePair.{NamePair}
-use Rattle.ncl_netlist.specs.declared.parts.PartCell.{PartCell}
-use Rattle.ncl_netlist.specs.declared.parts.Parts.{Parts}
-use Rattle.ncl_netlist.specs.Netlist.{IsNetlist}
-use Rattle.ncl_netlist.specs.Parts.{HasAllPins, output_name, port_names, cell_of, nets_of, netlist_of}
-use Rattle.ncl_netlist.proofs.NetlistLaws.{driver_of_net, net_of_port}
-use Rattle.ncl_rails.specs.declared.StageParts.{StageParts}
-use Rattle.ncl_bank.specs.declared.BankParts.{BankParts}
-use Rattle.ncl_tree.specs.NamePairs.{pair_names}
-use Rattle.ncl_tree.specs.PartNames.{IsPartName}
-use Rattle.ncl_token.specs.Bytes.{is_letter}
-use Rattle.ncl_assembly.proofs.ListPlaces.{place_of_member, member_of_flat_map, member_at}
-use Rattle.ncl_compile.specs.Size.{widths_of, CanBeCompiled}
-use Rattle.ncl_compile.specs.Compiled.{IsPlain, answer_width}
-use Rattle.ncl_compile.specs.Ports.{port_pair, input_pairs, output_pairs}
-use Rattle.ncl_compile.specs.InnerNames.{numbered, bank_prefix, stage_prefix, inner_pair, inner_pairs, pairs_driven, root_name}
-use Rattle.ncl_compile.specs.Pieces.{IsPutTogether}
+use Rattle.ncl_compile.proofs.Terms.{All, All-from_members, All-member, AreModels, BankParts, CanBeCompiled, Cell, Contains, Contains-from_Member, HasAllPins, IsNetlist, IsPartName, IsPlain, IsPutTogether, List, MOST_BITS, Member, Member-append_cases, Member-append_right, Member-from_Contains, Member-map, Model, NamePair, PartCell, Parts, Port, Some, StageParts, [], answer_width, ap, arith, at_of_map, bank_prefix, cell_of, codes, cond_both, driver_of_net, flat_map, get_or, get_or_from_slice_get, inl, inner_pair, inner_pairs, input_pairs, inr, is_letter, length, map, member_at, member_cases, member_of_flat_map, member_of_map, net_of_port, netlist_of, nets_of, numbered, output_name, output_pairs, pair_names, pairs_driven, place_of_member, port_names, port_pair, range_with_len, refl, root_name, slice_get, slice_get_within, slice_index, stage_prefix, subst, sym, true, width_of, widths_of, ℕ, ◌++◌, ◌<◌, ◌==◌, ◌∙◌, ◌∷◌, ◌≡◌, ◌≤◌, ◌⊎◌}
 use Rattle.ncl_compile.proofs.NameLaws.{same_numbered, name_of_pairs}
 use Rattle.ncl_compile.proofs.CallLaws.{first_of, root_first, port_first, driven_first}
 use Rattle.ncl_compile.proofs.BankWidths.{width_bounds, width_first, model_of_stage}
@@ -37,8 +9,6 @@ use Rattle.ncl_compile.proofs.NumberedPorts.{names_in, names_out, names_of_ports
 use Rattle.ncl_compile.proofs.PartPins.{all_pins}
 use Rattle.ncl_compile.proofs.BankNames.{bank_output_cases}
 use Rattle.ncl_compile.proofs.PlainNames.{part_plain, root_plain, inner_plain, port_plain}
-use Rattle.ncl_base.proofs.Tests.{All-member}
-use Rattle.ncl_base.proofs.Places.{at_of_map}
 
 -- a cell is one of those of a piece, a bank or a stage, of which there are fewer than a thousand
 pub record OfPiece {X : Type 0} (cells : X → List PartCell) (pieces : List X) (c : PartCell) : Type 0 where

@@ -1,16 +1,6 @@
 -- A netlist has no more nets than ports and cells.
-use Rattle.std.proofs.Common.{◌≡◌, ◌≢◌, ℕ, ◌+◌, ◌-◌, ◌<◌, ◌≤◌, Bool, [], length, map, get_or, inl, inr, refl, sym, ap, ◌∙◌, subst, arith}
-use Rattle.std.specs.Prelude.{All, AllPairs, nat_eq}
-use Rattle.std.specs.List.{position_or_len, range_with_len}
-use Rattle.std.proofs.lemmas.Bool.{cases_lt, eq-eqb, eqb-true, both_ways}
-use Rattle.std.proofs.lemmas.List.FromFn.{length-map-range_with_len, get_or-map-range_with_len}
-use Rattle.std.proofs.lemmas.List.Sums.{fails_before_first, passes_at_first}
-use Rattle.std.proofs.lemmas.Option.{slice_get_within, get_or_from_slice_get}
-use Rattle.ncl_base.proofs.Growing.{no_more_than}
-use Rattle.ncl_netlist.specs.declared.cell.Cell.{Cell}
-use Rattle.ncl_netlist.specs.Netlist.{NetlistData, IsNetlist}
-use Rattle.ncl_netlist.proofs.NetlistLaws.{ports-le-nets, driver_of_net}
-use Rattle.ncl_gates.specs.declared.cell_kind.CellKind.TheVariants.{Ack}
+use Rattle.ncl_compile.proofs.Terms.{Ack, All, AllPairs, Bool, Cell, IsNetlist, NetlistData, [], ap, arith, both_ways, cases_lt, driver_of_net, eq-eqb, eqb-true, fails_before_first, get_or, get_or-map-range_with_len, get_or_from_slice_get, inl, inr, length, length-map-range_with_len, map, no_more_than, passes_at_first, ports-le-nets, position_or_len, range_with_len, refl, slice_get_within, subst, sym, ℕ, ◌+◌, ◌-◌, ◌<◌, ◌∙◌, ◌≡◌, ◌≢◌, ◌≤◌}
+use Rattle.std.specs.Prelude.{nat_eq}
 
 module _ (n : NetlistData) (is : IsNetlist n) where
   abbrev drives : ℕ → Cell → Bool

@@ -1,17 +1,5 @@
 -- Where no cell of a netlist is reset to 1, no bank of its pipelines holds a word at reset.
-use Rattle.std.proofs.Common.{◌≡◌, ◌+◌, true, false, if◌then◌else◌, List, [], ◌∷◌, refl, ap, ◌∙◌}
-use Rattle.std.specs.Prelude.{All}
-use Rattle.std.proofs.lemmas.Bool.{both_ways, false_from_ne_true}
-use Rattle.std.proofs.lemmas.List.Elements.{All-contains}
-use Rattle.ncl_base.proofs.Members.{Member, here, there, Contains-from_Member, slice_get-from_Contains}
-use Rattle.ncl_gates.specs.Cell.{is_data_register}
-use Rattle.ncl_netlist.specs.declared.cell.Cell.{Cell}
-use Rattle.ncl_netlist.specs.Netlist.{NetlistData}
-use Rattle.ncl_shape.specs.declared.bank.Bank.{Bank}
-use Rattle.ncl_shape.specs.Held.{is_data_bank, data_banks}
-use Rattle.ncl_shape.specs.Pipeline.{PipelineData}
-use Rattle.ncl_shape.specs.Shape.{Shape}
-use Rattle.ncl_cell_roles.proofs.HeldWords.{data_bank_of}
+use Rattle.ncl_compile.proofs.Terms.{All, All-contains, Bank, Cell, Contains-from_Member, List, Member, NetlistData, PipelineData, Shape, [], ap, both_ways, data_bank_of, data_banks, false, false_from_ne_true, here, if◌then◌else◌, is_data_bank, is_data_register, refl, slice_get-from_Contains, there, true, ◌+◌, ◌∙◌, ◌∷◌, ◌≡◌}
 
 module _ (n : NetlistData) (p : PipelineData) (shape : Shape n p) (no_data : All (λ (cell : Cell). is_data_register cell.kind ≡ false) n.cells) where
   no_data_bank : (b : Bank) → Member b p.banks → is_data_bank b ≡ false

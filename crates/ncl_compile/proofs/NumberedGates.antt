@@ -1,23 +1,7 @@
 -- Gate cells that are numbered: they are cells of the netlist, and read and drive the nets of their names.
-use Rattle.std.proofs.Common.{◌≡◌, ℕ, ◌+◌, List, [], ◌∷◌, ◌++◌, length, map, Some, refl, sym, ap, ◌∙◌, arith}
-use Rattle.std.specs.Prelude.{All, slice_get}
-use Rattle.std.specs.List.{AllZip, range_with_len}
-use Rattle.std.proofs.lemmas.List.Elements.{All-nil, All-cons, All-head, All-tail}
-use Rattle.ncl_base.proofs.Members.{Member, here, there}
-use Rattle.ncl_gates.specs.declared.kind.Kind.{Kind}
-use Rattle.ncl_gates.specs.declared.cell_kind.CellKind.{CellKind}
-use Rattle.ncl_gates.specs.declared.cell_kind.CellKind.TheVariants.{Gate}
-use Rattle.ncl_netlist.specs.declared.parts.PartCell.{PartCell}
-use Rattle.ncl_netlist.specs.declared.parts.Parts.{Parts}
-use Rattle.ncl_netlist.specs.Names.{name_number}
-use Rattle.ncl_netlist.specs.Parts.{input_names, output_name, cell_of, nets_of, netlist_of}
-use Rattle.ncl_shape.specs.declared.stage.StageCell.{StageCell}
-use Rattle.ncl_shape.specs.Stage.{out_of}
-use Rattle.ncl_rails.specs.Naming.{named_net, IsNumbered}
-use Rattle.ncl_assembly.specs.Assembled.{HasCell, HasGate, gate_numbers}
+use Rattle.ncl_compile.proofs.Terms.{All, All-cons, All-head, All-nil, All-tail, AllZip, CellKind, Gate, HasCell, HasGate, IsNumbered, Kind, List, Member, PartCell, Parts, Some, StageCell, [], ap, arith, at_map, cell_of, gate_numbers, here, input_names, length, map, name_number, named_net, netlist_of, nets_of, out_of, output_name, range_with_len, refl, slice_get, sym, there, ℕ, ◌++◌, ◌+◌, ◌∙◌, ◌∷◌, ◌≡◌}
 use Rattle.ncl_compile.proofs.StandingCells.{StandAt, StandAt-head, StandAt-tail}
 use Rattle.ncl_compile.proofs.Numbering.{gate_kind, numbered_gate, numbered_gates}
-use Rattle.ncl_base.proofs.Places.{at_map}
 
 -- the cell is a gate
 abbrev pub IsGatePart : PartCell → Type 0

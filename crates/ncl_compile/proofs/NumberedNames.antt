@@ -1,27 +1,5 @@
 -- The numbers of the names in parts: names at pins have different ones, and ports have those of their places.
-use Rattle.std.proofs.Common.{◌≡◌, ℕ, ◌-◌, Bool, List, [], ◌∷◌, ◌++◌, length, map, get_or, Some, refl, sym, ap, ◌∙◌, arith}
-use Rattle.std.specs.Prelude.{slice_get}
-use Rattle.std.specs.List.{flat_map, range_with_len}
-use Rattle.std.proofs.lemmas.List.{length-map}
-use Rattle.std.proofs.lemmas.List.FromFn.{length-range_with_len}
-use Rattle.ncl_base.proofs.Lists.{same_from_lengths}
-use Rattle.ncl_base.proofs.Members.{Member, Member-append_right, Member-get_or, list_any-from_member}
-use Rattle.ncl_base.proofs.Places.{at_of_map}
-use Rattle.ncl_base.proofs.Joined.{Member-flat_map}
-use Rattle.ncl_gates.proofs.PinLaws.{pins_of-some}
-use Rattle.ncl_netlist.specs.declared.port.Port.{Port}
-use Rattle.ncl_netlist.specs.declared.parts.NamePair.{NamePair}
-use Rattle.ncl_netlist.specs.declared.parts.PartCell.{PartCell}
-use Rattle.ncl_netlist.specs.declared.parts.Parts.{Parts}
-use Rattle.ncl_netlist.specs.Names.{same_name, name_number}
-use Rattle.ncl_netlist.specs.Netlist.{IsNetlist}
-use Rattle.ncl_netlist.specs.Parts.{HasAllPins, port_names, output_name, nets_of, netlist_of}
-use Rattle.ncl_netlist.proofs.NameLists.{same_itself, list_any-once_each, name_number-lt-length, get_or-name_number}
-use Rattle.ncl_netlist.proofs.NetlistLaws.{name_number-net, net_of_port}
-use Rattle.ncl_shape.specs.Stage.{rail_nets}
-use Rattle.ncl_rails.specs.Naming.{named_pair}
-use Rattle.ncl_tree.specs.NamePairs.{pair_names}
-use Rattle.ncl_compile.specs.Ports.{ports_named}
+use Rattle.ncl_compile.proofs.Terms.{Bool, HasAllPins, IsNetlist, List, Member, Member-append_right, Member-flat_map, Member-get_or, NamePair, PartCell, Parts, Port, Some, [], ap, arith, at_of_map, flat_map, get_or, get_or-name_number, length, length-map, length-range_with_len, list_any-from_member, list_any-once_each, map, name_number, name_number-lt-length, name_number-net, named_pair, net_of_port, netlist_of, nets_of, output_name, pair_names, pins_of-some, port_names, ports_named, rail_nets, range_with_len, refl, same_from_lengths, same_itself, same_name, slice_get, sym, ℕ, ◌++◌, ◌-◌, ◌∙◌, ◌∷◌, ◌≡◌}
 use Rattle.ncl_compile.proofs.NumberedBanks.{place_in_range}
 
 module _ (parts : Parts) where

@@ -1,21 +1,5 @@
 -- The ports of a compiled netlist by numbers: they are the first nets, the inputs before the outputs.
-use Rattle.std.proofs.Common.{◌≡◌, ℕ, Bool, true, false, List, [], ◌∷◌, ◌++◌, length, map, sym, ap, ◌∙◌}
-use Rattle.std.specs.Prelude.{codes}
-use Rattle.std.specs.List.{range_with_len}
-use Rattle.std.proofs.lemmas.List.{map-append}
-use Rattle.ncl_blif.specs.declared.model.Model.{Model}
-use Rattle.ncl_blif.specs.Meaning.{width_of}
-use Rattle.ncl_netlist.specs.declared.port.Port.{Port}
-use Rattle.ncl_netlist.specs.declared.parts.Parts.{Parts}
-use Rattle.ncl_netlist.specs.Netlist.{IsNetlist}
-use Rattle.ncl_netlist.specs.Parts.{netlist_of}
-use Rattle.ncl_rails.specs.Naming.{named_net}
-use Rattle.ncl_rails.specs.declared.StageParts.{StageParts}
-use Rattle.ncl_bank.specs.declared.BankParts.{BankParts}
-use Rattle.ncl_tree.specs.NamePairs.{pair_names}
-use Rattle.ncl_assembly.specs.Assembled.{input_nets, output_nets}
-use Rattle.ncl_compile.specs.Compiled.{answer_width}
-use Rattle.ncl_compile.specs.Ports.{input_pairs, output_pairs, ports_named, ports_for}
+use Rattle.ncl_compile.proofs.Terms.{BankParts, Bool, IsNetlist, List, Model, Parts, Port, StageParts, [], answer_width, ap, codes, false, input_nets, input_pairs, length, map, map-append, named_net, netlist_of, output_nets, output_pairs, pair_names, ports_for, ports_named, range_with_len, sym, true, width_of, ℕ, ◌++◌, ◌∙◌, ◌∷◌, ◌≡◌}
 use Rattle.ncl_compile.proofs.Numbering.{pipeline_of}
 use Rattle.ncl_compile.proofs.NumberedNames.{net_number, ports_in_row, rail_nets-numbered, names_of_ports, directions_of_ports}
 

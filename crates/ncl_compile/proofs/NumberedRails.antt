@@ -1,34 +1,9 @@
 -- How numbered banks and stages are joined: each bank reads what the stage before it gives, drives what the stage after
 -- it takes, and is requested by the root of the next.
-use Rattle.std.proofs.Common.{◌≡◌, ℕ, zero, suc, ◌+◌, List, [], ◌∷◌, ◌++◌, length, map, get_or, refl, sym, ap, ◌∙◌, arith}
-use Rattle.std.specs.Prelude.{codes, slice_get, slice_index, ◌==◌}
-use Rattle.std.specs.List.{range_with_len}
-use Rattle.std.proofs.lemmas.Bool.{eq-eqb, ne_eqb, cond-true, cond-false}
-use Rattle.std.proofs.lemmas.List.{length-map}
-use Rattle.std.proofs.lemmas.List.FromFn.{length-map-range_with_len, map-range_with_len_more, fill_by_all}
-use Rattle.ncl_base.proofs.Lists.{same_from_lengths}
-use Rattle.ncl_base.proofs.Members.{Member}
-use Rattle.ncl_blif.specs.declared.model.Model.{Model}
-use Rattle.ncl_blif.specs.Meaning.{width_of}
-use Rattle.ncl_netlist.specs.declared.parts.NamePair.{NamePair}
-use Rattle.ncl_shape.specs.declared.rails.Rails.{Rails}
-use Rattle.ncl_shape.specs.Stage.{StageData}
-use Rattle.ncl_rails.specs.Naming.{named_pair}
-use Rattle.ncl_rails.specs.declared.StageParts.{StageParts}
-use Rattle.ncl_bank.specs.declared.BankParts.{BankParts}
-use Rattle.ncl_assembly.specs.Assembled.{WiredBit, WiredBank, rails_read, rails_driven}
-use Rattle.ncl_assembly.proofs.ListPlaces.{map-map}
-use Rattle.ncl_compile.specs.Size.{widths_of}
-use Rattle.ncl_compile.specs.Compiled.{answer_width}
-use Rattle.ncl_compile.specs.Ports.{input_pairs, output_pairs}
-use Rattle.ncl_compile.specs.InnerNames.{inner_pairs, pairs_driven, root_name, request_name}
-use Rattle.ncl_compile.specs.Pieces.{outputs_of, pairs_read}
+use Rattle.ncl_compile.proofs.Terms.{BankParts, List, Member, Model, NamePair, Rails, StageData, StageParts, WiredBank, WiredBit, [], answer_width, ap, arith, at_of_map, below_of_range, codes, cond-false, cond-true, eq-eqb, fill_by_all, get_or, inner_pairs, input_pairs, length, length-map, length-map-range_with_len, map, map-map, map-range_with_len_more, map-same, named_pair, ne_eqb, output_pairs, outputs_of, pairs_driven, pairs_read, rails_driven, rails_read, range_with_len, refl, request_name, root_name, same_from_lengths, slice_get, slice_index, suc, sym, width_of, widths_of, zero, ℕ, ◌++◌, ◌+◌, ◌==◌, ◌∙◌, ◌∷◌, ◌≡◌}
 use Rattle.ncl_compile.proofs.Numbering.{no_pair, numbered_bit, banks_from, stages_from}
 use Rattle.ncl_compile.proofs.NumberedBanks.{place_in_range}
 use Rattle.ncl_compile.proofs.NumberedRows.{AreFacts, first_fact, rest_facts}
-use Rattle.ncl_base.proofs.Tests.{map-same}
-use Rattle.ncl_base.proofs.Places.{at_of_map}
-use Rattle.ncl_base.proofs.Ranges.{below_of_range}
 
 -- a function of numbers in a row, from one later on
 map-later : {Y : Type 0} (f : ℕ → Y) (a count : ℕ) → map f (range_with_len (a + 1) count) ≡ map (λ k. f (suc k)) (range_with_len a count)

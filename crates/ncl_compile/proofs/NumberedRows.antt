@@ -1,20 +1,5 @@
 -- The cells of banks and stages are numbered in a row.
-use Rattle.std.proofs.Common.{◌≡◌, ℕ, zero, suc, ◌+◌, ◌*◌, List, [], ◌∷◌, ◌++◌, length, map, drop, Some, refl, sym, ap, ◌∙◌, subst, arith}
-use Rattle.std.specs.Prelude.{codes, slice_get, slice_index}
-use Rattle.std.specs.List.{flat_map, range_with_len}
-use Rattle.std.proofs.lemmas.List.{length-append}
-use Rattle.ncl_blif.specs.declared.model.Model.{Model}
-use Rattle.ncl_blif.specs.Meaning.{width_of}
-use Rattle.ncl_netlist.specs.declared.parts.NamePair.{NamePair}
-use Rattle.ncl_shape.specs.Stage.{StageData}
-use Rattle.ncl_rails.specs.declared.StageParts.{StageParts}
-use Rattle.ncl_bank.specs.declared.BankParts.{BankParts}
-use Rattle.ncl_bank.specs.BankParts.{AreBankParts}
-use Rattle.ncl_assembly.specs.Assembled.{WiredBit, register_numbers, gate_numbers, bank_numbers}
-use Rattle.ncl_assembly.proofs.ListPlaces.{map-map}
-use Rattle.ncl_compile.specs.Size.{widths_of}
-use Rattle.ncl_compile.specs.InnerNames.{bank_prefix, pairs_driven, root_name, request_name}
-use Rattle.ncl_compile.specs.Pieces.{pairs_read, IsBankBetween}
+use Rattle.ncl_compile.proofs.Terms.{AreBankParts, BankParts, IsBankBetween, List, Model, NamePair, Some, StageData, StageParts, WiredBit, [], ap, arith, bank_numbers, bank_prefix, codes, drop, flat_map, gate_numbers, length, length-append, map, map-map, pairs_driven, pairs_read, range_with_len, refl, register_numbers, request_name, root_name, slice_get, slice_index, subst, suc, sym, width_of, widths_of, zero, ℕ, ◌*◌, ◌++◌, ◌+◌, ◌∙◌, ◌∷◌, ◌≡◌}
 use Rattle.ncl_compile.proofs.StandingCells.{range-append, range-pairs, map-range}
 use Rattle.ncl_compile.proofs.BankCells.{tree_is, length-cells}
 use Rattle.ncl_compile.proofs.Numbering.{numbered_bit, numbered_bank, banks_from, stages_from}

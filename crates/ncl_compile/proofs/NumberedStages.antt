@@ -1,38 +1,12 @@
 -- Stages of which the cells stand in the parts of a netlist are stages of that netlist, sound, and give the answers of
 -- their networks.
-use Rattle.std.proofs.Common.{◌≡◌, ℕ, zero, suc, ◌+◌, ◌<◌, List, [], ◌∷◌, length, map, Some, inl, inr, refl, sym, ap, ◌∙◌, subst, arith}
-use Rattle.std.specs.Prelude.{All, AllPairs, Contains, slice_get, slice_index}
-use Rattle.std.specs.List.{AllZip, flat_map, range_with_len}
-use Rattle.std.proofs.lemmas.List.{length-map}
-use Rattle.std.proofs.lemmas.List.Elements.{All-nil, All-cons}
-use Rattle.std.proofs.lemmas.List.FromFn.{length-range_with_len, get_or-range_with_len, length-map-range_with_len}
-use Rattle.ncl_base.proofs.Members.{Member, Member-append_cases, member_of_map, Member-from_Contains}
-use Rattle.ncl_blif.specs.declared.model.Model.{Model}
-use Rattle.ncl_netlist.specs.declared.parts.NamePair.{NamePair}
-use Rattle.ncl_netlist.specs.declared.parts.PartCell.{PartCell}
-use Rattle.ncl_netlist.specs.declared.parts.Parts.{Parts}
-use Rattle.ncl_netlist.specs.Parts.{HasAllPins, output_name, netlist_of}
-use Rattle.ncl_shape.specs.declared.stage.StageCell.{StageCell}
-use Rattle.ncl_shape.specs.Stage.{StageData}
-use Rattle.ncl_faults.specs.Faults.{IsSound}
-use Rattle.ncl_rails.specs.Naming.{named_pair, names_known, IsNumberedStage}
-use Rattle.ncl_rails.specs.declared.StageParts.{StageParts}
-use Rattle.ncl_tree.specs.NamePairs.{pair_names}
-use Rattle.ncl_bank.specs.declared.BankParts.{BankParts}
-use Rattle.ncl_bank.specs.BankParts.{AreBankParts}
-use Rattle.ncl_assembly.specs.Assembled.{IsWiredStage}
-use Rattle.ncl_assembly.proofs.ListPlaces.{pairs_of_map, Rise}
-use Rattle.ncl_compile.specs.Size.{widths_of}
-use Rattle.ncl_compile.specs.Compiled.{ComputesModel}
-use Rattle.ncl_compile.specs.InnerNames.{inner_pair, inner_pairs, stage_prefix}
-use Rattle.ncl_compile.specs.Pieces.{IsStageOfModel}
+use Rattle.ncl_compile.proofs.Terms.{All, All-cons, All-member, All-nil, AllPairs, AllZip, AreBankParts, BankParts, ComputesModel, Contains, HasAllPins, IsNumberedStage, IsSound, IsStageOfModel, IsWiredStage, List, Member, Member-append_cases, Member-from_Contains, Model, NamePair, PartCell, Parts, Rise, Some, StageCell, StageData, StageParts, [], ap, arith, flat_map, get_or-range_with_len, inl, inner_pair, inner_pairs, inr, length, length-map, length-map-range_with_len, length-range_with_len, map, member_of_map, named_pair, names_known, netlist_of, output_name, pair_names, pairs_of_map, range_with_len, refl, slice_get, slice_index, stage_prefix, subst, suc, sym, widths_of, zero, ℕ, ◌+◌, ◌<◌, ◌∙◌, ◌∷◌, ◌≡◌}
 use Rattle.ncl_compile.proofs.StandingCells.{StandAt, StandAt-left, StandAt-right}
 use Rattle.ncl_compile.proofs.BankNames.{bank_all_pins, bank_drives_rails}
 use Rattle.ncl_compile.proofs.Numbering.{numbered_gates, stage_from, stages_from}
 use Rattle.ncl_compile.proofs.NumberedGates.{IsGatePart, gates_have, gate_numbers-row, are_numbered}
 use Rattle.ncl_compile.proofs.NumberedNames.{pins_of_parts, net_number, same_number, output_among}
 use Rattle.ncl_compile.proofs.StageFunctions.{ComputesModel-from_network}
-use Rattle.ncl_base.proofs.Tests.{All-member}
 
 -- numbers in a row rise
 row_rises : (first count : ℕ) → Rise (range_with_len first count)

@@ -1,33 +1,10 @@
 -- Each cell of the parts of a compiled netlist has a net for each pin, and the names of its ports differ.
-use Rattle.std.proofs.Common.{◌≡◌, ◌≢◌, ℕ, ◌*◌, ◌<◌, ◌≤◌, List, [], ◌∷◌, ◌++◌, length, map, drop, inl, inr, refl, sym, ap, ◌∙◌, subst, arith}
-use Rattle.std.specs.Prelude.{All, codes}
-use Rattle.std.specs.List.{flat_map}
-use Rattle.std.proofs.lemmas.List.{length-append, length-map}
-use Rattle.std.proofs.lemmas.List.FromFn.{length-map-range_with_len}
-use Rattle.ncl_base.specs.declared.word.TheConstants.{MOST_BITS}
-use Rattle.ncl_base.proofs.Members.{Member, member_cases, Member-append_cases, All-from_members}
-use Rattle.ncl_blif.specs.declared.model.Model.{Model}
-use Rattle.ncl_blif.specs.Meaning.{width_of}
-use Rattle.ncl_blif.specs.Model.{AreModels}
-use Rattle.ncl_netlist.specs.declared.parts.NamePair.{NamePair}
-use Rattle.ncl_netlist.specs.declared.parts.Parts.{Parts}
-use Rattle.ncl_netlist.specs.declared.port.Port.{Port}
-use Rattle.ncl_netlist.specs.Names.{AllDiffer}
-use Rattle.ncl_netlist.specs.Parts.{HasAllPins, port_names}
-use Rattle.ncl_rails.specs.declared.StageParts.{StageParts}
-use Rattle.ncl_bank.specs.declared.BankParts.{BankParts}
-use Rattle.ncl_tree.specs.NamePairs.{pair_names}
-use Rattle.ncl_assembly.proofs.ListPlaces.{member_of_flat_map}
-use Rattle.ncl_compile.specs.Size.{CanBeCompiled}
-use Rattle.ncl_compile.specs.Compiled.{answer_width}
-use Rattle.ncl_compile.specs.Ports.{port_pair, input_pairs, output_pairs}
-use Rattle.ncl_compile.specs.Pieces.{IsPutTogether}
+use Rattle.ncl_compile.proofs.Terms.{All, All-from_members, All-member, AllDiffer, AllPairs-append, AreModels, BankParts, CanBeCompiled, HasAllPins, IsPutTogether, List, MOST_BITS, Member, Member-append_cases, Model, NamePair, Parts, Port, StageParts, [], answer_width, ap, arith, codes, drop, flat_map, inl, input_pairs, inr, length, length-append, length-map, length-map-range_with_len, map, member_cases, member_of_flat_map, output_pairs, pair_names, port_names, port_pair, refl, subst, sym, width_of, ℕ, ◌*◌, ◌++◌, ◌<◌, ◌∙◌, ◌∷◌, ◌≡◌, ◌≢◌, ◌≤◌}
 use Rattle.ncl_compile.proofs.BankWidths.{width_first, width_bounds, model_of_stage}
 use Rattle.ncl_compile.proofs.NameLaws.{AreApart, differ_from_apart, apart_more}
 use Rattle.ncl_compile.proofs.CallLaws.{first_of, other_first, port_first, ports_apart}
 use Rattle.ncl_compile.proofs.BankNames.{bank_all_pins}
 use Rattle.ncl_compile.proofs.NumberedPorts.{names_in, names_out, names_of_ports_for}
-use Rattle.ncl_base.proofs.Tests.{AllPairs-append, All-member}
 
 module _ (models : List Model) (are : AreModels models) (small : CanBeCompiled models) (parts : Parts) (put : IsPutTogether models parts) where
   pub all_pins : All HasAllPins parts.cells

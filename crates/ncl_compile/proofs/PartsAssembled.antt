@@ -1,32 +1,5 @@
 -- The netlist of parts that models are put together of is assembled.
-use Rattle.std.proofs.Common.{◌≡◌, ℕ, zero, suc, ◌+◌, ◌<◌, ◌≤◌, List, [], ◌∷◌, ◌++◌, length, map, Some, refl, sym, ap, ◌∙◌, subst, arith}
-use Rattle.std.specs.Prelude.{All, codes, slice_get, slice_index, ◌==◌}
-use Rattle.std.specs.List.{AllZip, flat_map, range_with_len}
-use Rattle.std.proofs.lemmas.Bool.{ne_eqb, cond-false}
-use Rattle.std.proofs.lemmas.List.{length-map, length-append}
-use Rattle.std.proofs.lemmas.List.Elements.{All-nil, All-cons}
-use Rattle.std.proofs.lemmas.List.FromFn.{length-map-range_with_len}
-use Rattle.std.proofs.lemmas.Option.{slice_get_within}
-use Rattle.ncl_base.proofs.Members.{Member, Member-append_left, Member-append_right, slice_get-some}
-use Rattle.ncl_blif.specs.declared.model.Model.{Model}
-use Rattle.ncl_blif.specs.Meaning.{width_of}
-use Rattle.ncl_blif.specs.Model.{AreModels}
-use Rattle.ncl_netlist.specs.declared.parts.PartCell.{PartCell}
-use Rattle.ncl_netlist.specs.declared.parts.Parts.{Parts}
-use Rattle.ncl_netlist.specs.Netlist.{IsNetlist}
-use Rattle.ncl_netlist.specs.Parts.{cell_of, nets_of, netlist_of}
-use Rattle.ncl_faults.specs.Faults.{IsSound}
-use Rattle.ncl_rails.specs.Naming.{named_net}
-use Rattle.ncl_rails.specs.declared.StageParts.{StageParts}
-use Rattle.ncl_bank.specs.declared.BankParts.{BankParts}
-use Rattle.ncl_tree.specs.NamePairs.{pair_names}
-use Rattle.ncl_assembly.specs.Assembled.{IsWiredBank, IsAssembled}
-use Rattle.ncl_assembly.proofs.ListPlaces.{member_at}
-use Rattle.ncl_compile.specs.Size.{widths_of, CanBeCompiled}
-use Rattle.ncl_compile.specs.Compiled.{ComputesModel}
-use Rattle.ncl_compile.specs.Ports.{port_pair, output_pairs}
-use Rattle.ncl_compile.specs.InnerNames.{bank_prefix, inner_pairs, pairs_driven, root_name, request_name}
-use Rattle.ncl_compile.specs.Pieces.{outputs_of, pairs_read, IsPutTogether}
+use Rattle.ncl_compile.proofs.Terms.{All, All-cons, All-nil, AllZip, AreModels, BankParts, CanBeCompiled, ComputesModel, IsAssembled, IsNetlist, IsPutTogether, IsSound, IsWiredBank, List, Member, Member-append_left, Member-append_right, Member-flat_map, Model, PartCell, Parts, Some, StageParts, [], ap, arith, bank_prefix, cell_of, codes, cond-false, flat_map, inner_pairs, length, length-append, length-map, length-map-range_with_len, map, member_at, named_net, ne_eqb, netlist_of, nets_of, output_pairs, outputs_of, pair_names, pairs_driven, pairs_read, port_pair, range_with_len, refl, request_name, root_name, slice_get, slice_get-some, slice_get_within, slice_index, subst, suc, sym, width_of, widths_of, zero, ℕ, ◌++◌, ◌+◌, ◌<◌, ◌==◌, ◌∙◌, ◌∷◌, ◌≡◌, ◌≤◌}
 use Rattle.ncl_compile.proofs.StandingCells.{StandAt, StandAt-whole, StandAt-left, StandAt-right, range-append}
 use Rattle.ncl_compile.proofs.CallLaws.{length-pairs_driven}
 use Rattle.ncl_compile.proofs.BankWidths.{width_before, width_first, width_bounds, model_of_stage, stage_of_model, length-outputs}
@@ -37,7 +10,6 @@ use Rattle.ncl_compile.proofs.NumberedRows.{BankFact, AreFacts, first_fact, rest
 use Rattle.ncl_compile.proofs.NumberedRails.{rails_in, rails_out, roots}
 use Rattle.ncl_compile.proofs.NumberedStages.{driven_among, StageFact, AreStageFacts, stages_are_wired, stages_are_sound, stages_compute, numbers_of_stages}
 use Rattle.ncl_compile.proofs.NumberedPorts.{ports_are_first, directions_are}
-use Rattle.ncl_base.proofs.Joined.{Member-flat_map}
 
 abbrev cells_of_bank : BankParts → List PartCell
 cells_of_bank bank = bank.cells

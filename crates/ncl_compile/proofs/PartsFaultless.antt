@@ -1,30 +1,5 @@
 -- Parts that models are put together of break no rule of netlists.
-use Rattle.std.proofs.Common.{◌≡◌, ◌≢◌, ℕ, zero, suc, ◌<◌, ◌≤◌, Bool, true, false, true≢false, List, [], ◌∷◌, ◌++◌, length, map, Some, inl, inr, ◌⊎◌, refl, sym, ap, ◌∙◌, subst, arith}
-use Rattle.std.specs.Prelude.{Contains, codes, slice_get, slice_index, ◌==◌}
-use Rattle.std.specs.List.{flat_map}
-use Rattle.std.proofs.lemmas.Bool.{eq-eqb, ne_eqb, cond-true, cond-false, cond_both, eqb-false}
-use Rattle.std.proofs.lemmas.List.{map-append}
-use Rattle.std.proofs.lemmas.Option.{slice_get_within}
-use Rattle.ncl_base.proofs.Members.{Member, here, there, member_cases, Member-append_left, Member-append_right, Member-append_cases, Member-map, member_of_map, Member-from_Contains, slice_get-some}
-use Rattle.ncl_blif.specs.declared.model.Model.{Model}
-use Rattle.ncl_blif.specs.Meaning.{width_of}
-use Rattle.ncl_blif.specs.Model.{AreModels}
-use Rattle.ncl_netlist.specs.declared.port.Port.{Port}
-use Rattle.ncl_netlist.specs.declared.parts.PartCell.{PartCell}
-use Rattle.ncl_netlist.specs.declared.parts.Parts.{Parts}
-use Rattle.ncl_netlist.specs.Faults.{IsFaultless, drivers_at}
-use Rattle.ncl_netlist.specs.Parts.{port_names, output_name, cell_names, nets_of}
-use Rattle.ncl_rails.specs.Naming.{names_known}
-use Rattle.ncl_rails.specs.declared.StageParts.{StageParts}
-use Rattle.ncl_bank.specs.declared.BankParts.{BankParts}
-use Rattle.ncl_tree.specs.NamePairs.{pair_names}
-use Rattle.ncl_tree.specs.PartNames.{IsPartName}
-use Rattle.ncl_assembly.proofs.ListPlaces.{member_at, member_of_flat_map}
-use Rattle.ncl_compile.specs.Size.{widths_of, CanBeCompiled}
-use Rattle.ncl_compile.specs.Compiled.{answer_width}
-use Rattle.ncl_compile.specs.Ports.{port_pair, input_pairs, output_pairs, ports_named}
-use Rattle.ncl_compile.specs.InnerNames.{bank_prefix, stage_prefix, inner_pairs, pairs_driven, root_name, request_name}
-use Rattle.ncl_compile.specs.Pieces.{IsStageOfModel, outputs_of, pairs_read, IsPutTogether}
+use Rattle.ncl_compile.proofs.Terms.{All-member, AllPairs-append, AreModels, BankParts, Bool, CanBeCompiled, Contains, IsFaultless, IsPartName, IsPutTogether, IsStageOfModel, List, Member, Member-append_cases, Member-append_left, Member-append_right, Member-flat_map, Member-from_Contains, Member-map, Model, PartCell, Parts, Port, Some, StageParts, [], answer_width, ap, arith, bank_prefix, cell_names, codes, cond-false, cond-true, cond_both, drivers_at, eq-eqb, eqb-false, false, flat_map, here, inl, inner_pairs, input_pairs, inr, length, map, map-append, member_at, member_cases, member_of_flat_map, member_of_map, names_known, ne_eqb, nets_of, output_name, output_pairs, outputs_of, pair_names, pairs_driven, pairs_read, port_names, port_pair, ports_named, refl, request_name, root_name, slice_get, slice_get-some, slice_get_within, slice_index, stage_prefix, subst, suc, sym, there, true, true≢false, width_of, widths_of, zero, ℕ, ◌++◌, ◌<◌, ◌==◌, ◌∙◌, ◌∷◌, ◌≡◌, ◌≢◌, ◌≤◌, ◌⊎◌}
 use Rattle.ncl_compile.proofs.NameLaws.{AreApart, apart_from_differ, differ_from_apart, port_begins, name_of_pairs}
 use Rattle.ncl_compile.proofs.CallLaws.{first_of}
 use Rattle.ncl_compile.proofs.BankWidths.{width_before, model_of_stage, stage_of_model}
@@ -36,8 +11,6 @@ use Rattle.ncl_compile.proofs.CellCount.{few_cells}
 use Rattle.ncl_compile.proofs.PartPins.{ports_differ}
 use Rattle.ncl_compile.proofs.BankNames.{bank_output_cases, bank_drives_root, bank_drives_rails, bank_pin_cases, stage_pin_cases}
 use Rattle.ncl_compile.proofs.DrivenOnce.{IsInputPort, names_said, driven_once}
-use Rattle.ncl_base.proofs.Tests.{AllPairs-append, All-member}
-use Rattle.ncl_base.proofs.Joined.{Member-flat_map}
 
 -- what a function gives at the elements of parts
 map-flat_map : {X Y Z : Type 0} (f : Y → Z) (parts_of : X → List Y) (xs : List X) → map f (flat_map parts_of xs) ≡ flat_map (λ x. map f (parts_of x)) xs

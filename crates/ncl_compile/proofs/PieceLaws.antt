@@ -1,12 +1,5 @@
 -- Stages and banks, one more at a time.
-use Rattle.std.proofs.Common.{◌≡◌, ℕ, ◌+◌, ◌<◌, List, [], ◌∷◌, ◌++◌, length, get_or, take, inl, inr, sym, ap, ◌∙◌, subst, arith}
-use Rattle.std.proofs.lemmas.List.{length_push, take_more, length-take-le}
-use Rattle.std.proofs.lemmas.Option.{slice_get_within}
-use Rattle.ncl_blif.specs.declared.model.Model.{Model}
-use Rattle.ncl_rails.specs.declared.StageParts.{StageParts}
-use Rattle.ncl_compile.specs.InnerNames.{inner_pairs, stage_prefix}
-use Rattle.ncl_compile.specs.Pieces.{IsStageOfModel, AreStages}
-use Rattle.ncl_base.proofs.Places.{push_cases}
+use Rattle.ncl_compile.proofs.Terms.{AreStages, IsStageOfModel, List, Model, StageParts, [], ap, arith, get_or, inl, inner_pairs, inr, length, length-take-le, length_push, push_cases, slice_get_within, stage_prefix, subst, sym, take, take_more, ℕ, ◌++◌, ◌+◌, ◌<◌, ◌∙◌, ◌∷◌, ◌≡◌}
 
 -- the stage of a model at this place
 abbrev pub IsStageAt : ℕ → Model → StageParts → Type 0

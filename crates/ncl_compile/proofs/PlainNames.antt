@@ -1,21 +1,6 @@
 -- The names of a compiled netlist are plain words: a letter, a digit, and letters, digits and `_`.
-use Rattle.std.proofs.Common.{◌≡◌, ℕ, zero, suc, ◌+◌, ◌/◌, ◌%◌, ◌^◌, ◌<◌, Bool, true, false, not, ◌||◌, List, [], ◌∷◌, ◌++◌, length, None, Some, inl, inr, refl, sym, ap, ◌∙◌, subst, arith}
-use Rattle.std.specs.Prelude.{codes, decimal, is_none, nat_le, ◌==◌, if◌then◌else◌}
-use Rattle.std.specs.List.{list_all, list_any}
-use Rattle.std.specs.Str.{bytes_eq}
-use Rattle.std.specs.Cmp.Lexicographic.{bytes_decides}
-use Rattle.std.proofs.lemmas.Bool.{and_parts, and_from, or_cases, or_left, or_right, both_ways, le-leb}
-use Rattle.std.proofs.lemmas.Fmt.{decimal_by_steps}
-use Rattle.std.proofs.lemmas.List.{length-append}
-use Rattle.ncl_token.specs.Bytes.{is_letter, is_digit, begins_word, continues_word}
-use Rattle.ncl_reader.specs.declared.keyword.Keyword.TheVariants.{Module, EndModule, Wire, LeftOut, Way as word_of}
-use Rattle.ncl_reader.specs.declared.keyword.Way.TheVariants.{Input, Output}
-use Rattle.ncl_reader.specs.Words.{keyword_of, left_out}
-use Rattle.ncl_writer.specs.Names.{is_plain}
-use Rattle.ncl_tree.specs.PartNames.{is_name_byte, IsPartName}
-use Rattle.ncl_compile.specs.Compiled.{IsPlain}
-use Rattle.ncl_compile.specs.Ports.{port_pair}
-use Rattle.ncl_compile.specs.InnerNames.{three_digits, numbered, inner_pair, root_name}
+use Rattle.ncl_compile.proofs.Terms.{Bool, EndModule, Input, IsPartName, IsPlain, LeftOut, List, Module, None, Output, Some, Wire, [], and_from, and_parts, ap, arith, begins_word, both_ways, bytes_decides, bytes_eq, codes, continues_word, decimal, decimal_by_steps, false, inl, inner_pair, inr, is_digit, is_letter, is_name_byte, is_none, is_plain, keyword_of, le-leb, left_out, length, length-append, list_all, list_any, nat_le, not, numbered, or_cases, or_left, or_right, port_pair, refl, root_name, subst, suc, sym, three_digits, true, word_of, zero, ℕ, ◌%◌, ◌++◌, ◌+◌, ◌/◌, ◌<◌, ◌==◌, ◌^◌, ◌||◌, ◌∙◌, ◌∷◌, ◌≡◌}
+use Rattle.std.specs.Prelude.{if◌then◌else◌}
 use Rattle.ncl_compile.proofs.NameLaws.{name_at}
 
 -- whether the second byte of a word is a digit

@@ -1,14 +1,5 @@
 -- The size of models: what it is made of, and that it stays small.
-use Rattle.std.proofs.Common.{◌≡◌, ℕ, suc, ◌+◌, ◌-◌, ◌<◌, ◌≤◌, List, [], ◌∷◌, length, get_or, take, Some, sum, sum_by, ap, arith}
-use Rattle.std.specs.Prelude.{All, slice_get}
-use Rattle.std.proofs.lemmas.List.Elements.{All-head, All-tail}
-use Rattle.std.proofs.lemmas.List.Sums.{sum_by-cons, sum_by-le-sum_by, get_or-le-sum_by, sum_by_more_le_part}
-use Rattle.std.proofs.lemmas.Option.{slice_get-get_or}
-use Rattle.ncl_blif.specs.declared.model.Model.{Model}
-use Rattle.ncl_blif.specs.declared.model.Cover.{Cover}
-use Rattle.ncl_blif.specs.Model.{AreModels, IsModel, most_size, size_of_model, weight_of_rows}
-use Rattle.ncl_network.specs.Network.{weight_of_model}
-use Rattle.ncl_compile.specs.Size.{widths_of, compile_size, IsSlim}
+use Rattle.ncl_compile.proofs.Terms.{All, All-head, All-tail, AreModels, Cover, IsModel, IsSlim, List, Model, Some, [], ap, arith, compile_size, get_or, get_or-le-sum_by, length, most_size, size_of_model, slice_get, slice_get-get_or, suc, sum, sum_by, sum_by-cons, sum_by-le-sum_by, sum_by_more_le_part, take, weight_of_model, weight_of_rows, widths_of, ℕ, ◌+◌, ◌-◌, ◌<◌, ◌∷◌, ◌≡◌, ◌≤◌}
 
 -- what a model adds to the size
 abbrev pub units_of : Model → ℕ

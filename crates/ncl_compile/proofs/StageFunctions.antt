@@ -1,22 +1,5 @@
 -- Stages that give the answers of networks, and the function of a pipeline of such stages.
-use Rattle.std.proofs.Common.{◌≡◌, List, [], ◌∷◌, Bool, length, sym, ap, ◌∙◌, subst}
-use Rattle.std.specs.Prelude.{All}
-use Rattle.std.specs.List.{AllZip}
-use Rattle.std.proofs.lemmas.List.{length-map}
-use Rattle.ncl_blif.specs.declared.model.Model.{Model}
-use Rattle.ncl_blif.specs.Meaning.{Gives, Computes}
-use Rattle.ncl_network.specs.declared.network.Network.{Network}
-use Rattle.ncl_network.specs.Network.{answer_of}
-use Rattle.ncl_netlist.specs.Netlist.{NetlistData}
-use Rattle.ncl_shape.specs.Stage.{StageData}
-use Rattle.ncl_shape.specs.Closure.{function_of}
-use Rattle.ncl_shape.specs.Pipeline.{PipelineData}
-use Rattle.ncl_shape.specs.Shape.{Shape}
-use Rattle.ncl_faults.specs.Faults.{IsSound}
-use Rattle.ncl_machine.specs.Composition.{stage_function, composed}
-use Rattle.ncl_insensitivity.proofs.Headline.{is_composition}
-use Rattle.ncl_rails.specs.StageParts.{Answers}
-use Rattle.ncl_compile.specs.Compiled.{ComputesModel}
+use Rattle.ncl_compile.proofs.Terms.{All, AllZip, Answers, Bool, Computes, ComputesModel, Gives, IsSound, List, Model, NetlistData, Network, PipelineData, Shape, StageData, [], answer_of, ap, composed, function_of, is_composition, length, length-map, stage_function, subst, sym, ◌∙◌, ◌∷◌, ◌≡◌}
 
 -- the word of a model has as many bits as the model has inputs
 width_of_word : (model : Model) (word answer : List Bool) → Gives model word answer → length word ≡ length model.inputs

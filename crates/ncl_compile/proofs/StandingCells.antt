@@ -1,8 +1,5 @@
 -- Where the parts of a list stand in it, and numbers in a row.
-use Rattle.std.proofs.Common.{◌≡◌, ℕ, zero, suc, ◌+◌, ◌*◌, List, [], ◌∷◌, ◌++◌, length, map, Some, refl, sym, ap, ◌∙◌, arith}
-use Rattle.std.specs.Prelude.{slice_get}
-use Rattle.std.specs.List.{flat_map, range_with_len}
-use Rattle.ncl_base.proofs.Places.{slice_get-append_left, slice_get-append_right}
+use Rattle.ncl_compile.proofs.Terms.{List, Some, [], ap, arith, flat_map, length, map, range_with_len, refl, slice_get, slice_get-append_left, slice_get-append_right, suc, sym, zero, ℕ, ◌*◌, ◌++◌, ◌+◌, ◌∙◌, ◌∷◌, ◌≡◌}
 
 -- the elements of a list stand in another from this place on
 abbrev pub StandAt : {X : Type 0} → List X → ℕ → List X → Type 0

@@ -1,23 +1,5 @@
 -- How long the text of a compiled netlist is.
-use Rattle.std.proofs.Common.{◌≡◌, ℕ, ◌+◌, ◌*◌, ◌<◌, ◌≤◌, List, [], ◌∷◌, ◌++◌, length, map, take, drop, get_or, inl, inr, refl, sym, subst, arith}
-use Rattle.std.specs.Prelude.{codes}
-use Rattle.std.specs.List.{flat_map}
-use Rattle.std.proofs.lemmas.List.{length-append, length-drop, length-map, take-append-drop}
-use Rattle.ncl_base.specs.declared.source.TheConstants.{MOST_BYTES}
-use Rattle.ncl_base.proofs.Members.{Member, Member-append_right, Member-append_cases, Member-map, member_cases, member_of_map, Member-get_or, All-from_members}
-use Rattle.ncl_base.proofs.Tests.{All-member}
-use Rattle.ncl_blif.specs.declared.model.Model.{Model}
-use Rattle.ncl_blif.specs.Model.{AreModels}
-use Rattle.ncl_netlist.specs.declared.cell.Cell.{Cell}
-use Rattle.ncl_netlist.specs.declared.ids.NetId.{NetId}
-use Rattle.ncl_netlist.specs.declared.port.Port.{Port}
-use Rattle.ncl_netlist.specs.declared.parts.Parts.{Parts}
-use Rattle.ncl_netlist.specs.Netlist.{NetlistData, IsNetlist, CellFits, pin_names}
-use Rattle.ncl_netlist.specs.Parts.{cell_of, nets_of, netlist_of}
-use Rattle.ncl_writer.specs.Text.{header_line, port_line, wire_line, cell_line, text_of}
-use Rattle.ncl_compile.specs.Size.{CanBeCompiled}
-use Rattle.ncl_compile.specs.Compiled.{IsPlain}
-use Rattle.ncl_compile.specs.Pieces.{IsPutTogether}
+use Rattle.ncl_compile.proofs.Terms.{All-from_members, All-member, AreModels, CanBeCompiled, Cell, CellFits, IsNetlist, IsPlain, IsPutTogether, List, MOST_BYTES, Member, Member-append_cases, Member-append_right, Member-get_or, Member-map, Model, NetId, NetlistData, Parts, Port, [], arith, cell_line, cell_of, codes, drop, flat_map, get_or, header_line, inl, inr, length, length-append, length-drop, length-map, map, member_cases, member_of_map, netlist_of, nets_of, pin_names, port_line, refl, subst, sym, take, take-append-drop, text_of, wire_line, ℕ, ◌*◌, ◌++◌, ◌+◌, ◌<◌, ◌∷◌, ◌≡◌, ◌≤◌}
 use Rattle.ncl_compile.proofs.CellCount.{few_cells}
 use Rattle.ncl_compile.proofs.NameLengths.{IsShort, port_names_short, cells_short, nets_short}
 use Rattle.ncl_compile.proofs.NetDrivers.{plain_nets, plain_cells, plain_ports}

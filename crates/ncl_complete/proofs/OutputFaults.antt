@@ -1,27 +1,6 @@
 -- What the functions of the outputs tell of their faults.
-use Rattle.std.proofs.Common.{◌≡◌, ℕ, ◌<◌, Bool, true, false, List, [], ◌∷◌, length, map, get_or, Option, Some, None, ap, ◌∙◌, arith}
-use Rattle.std.specs.Prelude.{option_and_then}
-use Rattle.std.specs.Option.{option_map}
-use Rattle.std.proofs.lemmas.List.{get_or-map, length-map}
-use Rattle.ncl_shape.specs.declared.rails.Rails.{Rails}
-use Rattle.ncl_shape.specs.Stage.{StageData}
-use Rattle.ncl_space.specs.Table.{table_of}
-use Rattle.ncl_stage.specs.BitOrder.{IsOrderOf, placed, words_by}
-use Rattle.ncl_space.specs.Functions.{least}
-use Rattle.ncl_space.specs.Space.{SpaceData}
-use Rattle.ncl_space.specs.Making.{HaveTables}
-use Rattle.ncl_space.specs.declared.space.Ref.{Ref}
-use Rattle.ncl_space.proofs.MakingLaws.{have-length, have-at}
-use Rattle.ncl_faults.specs.declared.variant.Variant.TheVariants.{Base}
-use Rattle.ncl_faults.specs.Faults.{BothRails, NoRail, has_data, is_illegal}
-use Rattle.ncl_stage.specs.LeastWords.{below, first_of, least_word_by}
-use Rattle.ncl_stage.specs.Tables.{data_functions, function_tables_by, illegal_functions}
-use Rattle.ncl_faults.specs.Values.{val}
-use Rattle.ncl_stage.proofs.OutputLaws.{values_at}
-use Rattle.ncl_stage.proofs.LeastLaws.{least-shown, least-hidden, both-shown, none-shown, outputs-grouped, first_below-none, first_below-some}
-use Rattle.ncl_complete.specs.declared.rail_fault.RailFault.{RailFault}
+use Rattle.ncl_complete.proofs.Terms.{Base, Bool, BothRails, HaveTables, IsOrderOf, List, NoRail, None, Option, RailFault, Rails, Ref, Some, SpaceData, StageData, [], ap, arith, below, both-shown, data_functions, false, first_below-none, first_below-some, first_of, first_rail_fault_by, found_fault_by, function_tables_by, get_or, get_or-map, has_data, have-at, have-length, illegal_functions, is_illegal, least, least-hidden, least-shown, least_word_by, length, length-map, map, none-shown, option_and_then, option_map, outputs-grouped, placed, rail_fault, table_of, true, val, values_at, words_by, ℕ, ◌<◌, ◌∙◌, ◌∷◌, ◌≡◌}
 use Rattle.ncl_complete.specs.declared.rail_fault.RailFault.TheVariants as rail
-use Rattle.ncl_complete.specs.RailFaults.{rail_fault, found_fault_by, first_rail_fault_by}
 
 -- the table of an output, where a function of its rails is asked of each
 table-at : (s : StageData) (order : List ℕ) (f : Rails → List Bool → Bool) (space : SpaceData) (refs : List Ref) → HaveTables space refs (function_tables_by order (map f s.outputs)) → (output : ℕ) → output < length s.outputs → (d : Rails) (e : Ref) → space.table (get_or refs output e) ≡ table_of (words_by order) (f (get_or s.outputs output d))

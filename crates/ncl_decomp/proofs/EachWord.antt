@@ -1,6 +1,5 @@
 -- What holds at the word of each number holds at each word.
-use Rattle.std.proofs.Common.{◌≡◌, ℕ, zero, suc, ◌+◌, ◌*◌, ◌/◌, ◌%◌, ◌^◌, ◌<◌, ◌≤◌, nat_eq, Bool, true, false, List, [], ◌∷◌, length, take, refl, ap, subst, arith}
-use Rattle.ncl_decomp.specs.Words.{word_of}
+use Rattle.ncl_decomp.proofs.Terms.{Bool, List, [], ap, arith, false, length, nat_eq, refl, subst, suc, take, true, word_of, zero, ℕ, ◌%◌, ◌*◌, ◌+◌, ◌/◌, ◌<◌, ◌^◌, ◌∷◌, ◌≡◌, ◌≤◌}
 
 -- the words of n bits are those of the numbers below 2 ^ n
 pub at_each_word : (n : ℕ) (P : List Bool → Type 0) → ((number : ℕ) → number < 2 ^ n → P (word_of n number)) → (word : List Bool) → length word ≡ n → P word

@@ -1,14 +1,5 @@
 -- Products under frames: a frame more, and one less.
-use Rattle.std.proofs.Common.{◌≡◌, ℕ, ◌+◌, ◌*◌, ◌<◌, ◌≤◌, true, List, [], ◌∷◌, ◌++◌, length, ap, refl, sym, subst, ◌∙◌, arith, length-append}
-use Rattle.std.specs.Prelude.{sum_by}
-use Rattle.std.specs.List.{list_any}
-use Rattle.std.proofs.lemmas.List.{append-nil}
-use Rattle.std.proofs.lemmas.List.Sums.{sum_by-append, sum_by_push}
-use Rattle.ncl_network.specs.declared.network.Signal.{Signal}
-use Rattle.ncl_network.specs.declared.network.Node.{Node}
-use Rattle.ncl_decomp.specs.declared.factoring.Frame.{Frame}
-use Rattle.ncl_decomp.specs.Products.{under, total, whole, is_empty}
-use Rattle.ncl_decomp.specs.Splitting.{IsSameSum, AddsSum}
+use Rattle.ncl_decomp.proofs.Terms.{AddsSum, Frame, IsSameSum, List, Node, Signal, [], ap, append-nil, arith, is_empty, length, length-append, list_any, refl, subst, sum_by, sum_by-append, sum_by_push, sym, total, true, under, whole, ℕ, ◌*◌, ◌++◌, ◌+◌, ◌<◌, ◌∙◌, ◌∷◌, ◌≡◌, ◌≤◌}
 use Rattle.ncl_decomp.proofs.Sums.{AddsSum-same, AddsSum-then, AddsSum-under, AddsSum-whole, AddsSum-always, under_total, whole_push, whole_room}
 
 pub AddsSum-parted : (given sum others rests : List (List Signal)) (before nodes : List Node) (frames longer : List Frame) (frame : Frame) → AddsSum given before nodes (whole frames sum) → IsSameSum sum (others ++ under frame.literal rests) → frame.others ≡ others → longer ≡ frames ++ frame ∷ [] → AddsSum given before nodes (whole longer rests)

@@ -1,13 +1,5 @@
 -- Nodes after others.
-use Rattle.std.proofs.Common.{◌≡◌, ℕ, ◌+◌, ◌≤◌, Bool, ◌&&◌, ◌||◌, List, [], ◌∷◌, ◌++◌, length, map, refl, ap, subst, ◌∙◌, arith, append_assoc}
-use Rattle.std.specs.Prelude.{All}
-use Rattle.std.specs.List.{list_all, list_any}
-use Rattle.std.proofs.lemmas.List.Elements.{All-head, All-tail, All-weaker}
-use Rattle.ncl_network.specs.declared.network.Signal.{Signal}
-use Rattle.ncl_network.specs.declared.network.Node.{Node}
-use Rattle.ncl_network.specs.Network.{signal_value, node_value, node_values, IsSource, ReadBefore}
-use Rattle.ncl_network.proofs.Walking.{signal_value-more, IsSource-more}
-use Rattle.ncl_decomp.specs.Splitting.{AreVarying}
+use Rattle.ncl_decomp.proofs.Terms.{All, All-head, All-tail, All-weaker, AreVarying, Bool, IsSource, IsSource-more, List, Node, ReadBefore, Signal, [], ap, append_assoc, arith, length, list_all, list_any, map, node_value, node_values, refl, signal_value, signal_value-more, subst, ℕ, ◌&&◌, ◌++◌, ◌+◌, ◌||◌, ◌∙◌, ◌∷◌, ◌≡◌, ◌≤◌}
 
 pub node_values-append : (word bits : List Bool) (xs ys : List Node) → node_values word bits (xs ++ ys) ≡ node_values word (node_values word bits xs) ys
 node_values-append word bits [] ys = refl

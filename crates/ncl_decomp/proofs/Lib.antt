@@ -1,9 +1,10 @@
+mod Terms
 pub mod Pairs
 pub mod Trees
 pub mod Queue
 pub mod RowLiterals
 pub mod Later
-pub mod Terms
+pub mod ProductTerms
 pub mod Sums
 pub mod Parting
 pub mod Frames

@@ -1,19 +1,5 @@
 -- The values of nodes of two inputs and of trees of them, and how many nodes a tree has.
-use Rattle.std.proofs.Common.{◌≡◌, ℕ, ◌+◌, ◌<◌, Bool, true, false, ◌&&◌, ◌||◌, List, [], ◌∷◌, ◌++◌, length, refl, sym, ap, subst, ◌∙◌, arith, length-append}
-use Rattle.std.specs.Prelude.{All}
-use Rattle.std.specs.List.{list_all, list_any}
-use Rattle.std.proofs.lemmas.List.{get_or_push, length_push}
-use Rattle.std.proofs.lemmas.List.Elements.{All-head, All-tail, All-push}
-use Rattle.std.proofs.lemmas.List.Folds.{list_all-append, list_any-append}
-use Rattle.ncl_blif.specs.Meaning.{cover_value}
-use Rattle.ncl_blif.specs.declared.model.Lit.TheVariants.{Zero, One, Dash}
-use Rattle.ncl_network.specs.declared.network.Signal.{Signal}
-use Rattle.ncl_network.specs.declared.network.Node.{Node}
-use Rattle.ncl_network.specs.Network.{signal_value, node_value, node_values, IsSource}
-use Rattle.ncl_network.proofs.Walking.{signal_value-more, IsSource-more}
-use Rattle.ncl_decomp.specs.declared.pair.Joint.{Joint}
-use Rattle.ncl_decomp.specs.declared.pair.Joint.TheVariants.{And, Or, Join}
-use Rattle.ncl_decomp.specs.Pairs.{pair_node, node_signal, NodeTree, one, more}
+use Rattle.ncl_decomp.proofs.Terms.{All, All-head, All-push, All-tail, And, Bool, Dash, IsSource, IsSource-more, Join, Joint, List, Node, NodeTree, One, Or, Signal, Zero, [], ap, arith, cover_value, false, get_or_push, length, length-append, length_push, list_all, list_all-append, list_any, list_any-append, more, node_signal, node_value, node_values, one, pair_node, refl, signal_value, signal_value-more, subst, sym, true, ℕ, ◌&&◌, ◌++◌, ◌+◌, ◌<◌, ◌||◌, ◌∙◌, ◌∷◌, ◌≡◌}
 
 -- ---- the values of the nodes
 

@@ -1,21 +1,6 @@
 -- Products parted by a signal that some of them have.
-use Rattle.std.proofs.Common.{◌≡◌, ℕ, ◌<◌, ◌≤◌, Bool, true, false, not, cond, ◌&&◌, ◌||◌, List, [], ◌∷◌, ◌++◌, length, refl, sym, ap, subst, ◌∙◌, arith, append_assoc}
-use Rattle.std.specs.Prelude.{All, None, Some, if◌then◌else◌}
-use Rattle.std.specs.List.{list_all, cons_option}
-use Rattle.std.specs.List.Sorted.{IsPermutation}
-use Rattle.std.proofs.lemmas.Bool.{eqb-true, false_from_ne_true, true_from_ne_false}
-use Rattle.std.proofs.lemmas.List.{length_push, map_push}
-use Rattle.std.proofs.lemmas.List.Elements.{All-cons, All-push, All-head, All-tail}
-use Rattle.std.proofs.lemmas.List.Folds.{list_any-append}
-use Rattle.std.proofs.lemmas.List.Sorted.{IsPermutation-to_front, IsPermutation-append_right, All-permutation, list_any-IsPermutation, sum_by-IsPermutation, length_permutation}
-use Rattle.std.proofs.lemmas.List.Sums.{sum_by_push}
-use Rattle.ncl_base.proofs.Tests.{All-left, All-right}
-use Rattle.ncl_network.specs.declared.network.SignalSource.{SignalSource}
-use Rattle.ncl_network.specs.declared.network.SignalSource.TheVariants.{Input, Node as FromNode, Const}
-use Rattle.ncl_network.specs.declared.network.Signal.{Signal}
-use Rattle.ncl_network.specs.Network.{is_constant, IsSource}
-use Rattle.ncl_decomp.specs.Products.{same_source, same_signal, other_than, has, without, under, IsFilled}
-use Rattle.ncl_decomp.specs.Splitting.{AreVarying, IsSameSum}
+use Rattle.ncl_decomp.proofs.Terms.{All, All-cons, All-head, All-left, All-permutation, All-push, All-right, All-tail, AreVarying, Bool, Const, FromNode, Input, IsFilled, IsPermutation, IsPermutation-append_right, IsPermutation-to_front, IsSameSum, IsSource, List, None, Signal, SignalSource, [], ap, append_assoc, arith, cond, cons_option, eqb-true, false, false_from_ne_true, has, if◌then◌else◌, is_constant, length, length_permutation, length_push, list_all, list_any-IsPermutation, list_any-append, map_push, not, other_than, refl, same_signal, same_source, subst, sum_by-IsPermutation, sum_by_push, sym, true, true_from_ne_false, under, without, ℕ, ◌&&◌, ◌++◌, ◌<◌, ◌||◌, ◌∙◌, ◌∷◌, ◌≡◌, ◌≤◌}
+use Rattle.std.specs.Prelude.{Some}
 
 -- ---- equal signals
 

@@ -1,23 +1,5 @@
 -- What one node becomes: a sum of products, or itself.
-use Rattle.std.proofs.Common.{◌≡◌, ℕ, zero, suc, ◌+◌, ◌*◌, ◌^◌, ◌<◌, ◌≤◌, Bool, true, false, not, cond, ◌&&◌, ◌||◌, List, [], ◌∷◌, ◌++◌, length, map, inl, inr, refl, sym, ap, subst, ◌∙◌, arith, length-append, append_assoc}
-use Rattle.std.specs.Prelude.{All}
-use Rattle.std.specs.List.{list_any, list_all}
-use Rattle.std.proofs.lemmas.List.{get_or_push}
-use Rattle.std.proofs.lemmas.List.Elements.{All-nil, All-cons, All-append, All-weaker, All-head, All-tail}
-use Rattle.std.proofs.lemmas.List.Sums.{sum_by-cons}
-use Rattle.ncl_blif.specs.Meaning.{row_matches, cover_value}
-use Rattle.ncl_blif.specs.Model.{weight_of_rows}
-use Rattle.ncl_blif.specs.declared.model.Lit.{Lit}
-use Rattle.ncl_network.specs.declared.network.Signal.{Signal}
-use Rattle.ncl_network.specs.declared.network.Node.{Node}
-use Rattle.ncl_network.specs.Network.{signal_value, node_value, node_values, is_constant, is_dash, IsSource, ReadBefore, IsNode}
-use Rattle.ncl_network.proofs.Walking.{length-node_values}
-use Rattle.ncl_decomp.specs.declared.pair.Joint.TheVariants.{Or}
-use Rattle.ncl_decomp.specs.Pairs.{AddsTree, node_signal}
-use Rattle.ncl_decomp.specs.Products.{total, IsFilled}
-use Rattle.ncl_decomp.specs.Rows.{turned, literals_of}
-use Rattle.ncl_decomp.specs.Split.{IsNarrow, IsOfTwoOr, cost_of_inputs, cost_of_nodes}
-use Rattle.ncl_decomp.specs.Splitting.{AreVarying, TellProducts, AddsTerms, TellSum, AddsSum, AddsNode}
+use Rattle.ncl_decomp.proofs.Terms.{AddsNode, AddsSum, AddsTerms, AddsTree, All, All-append, All-cons, All-head, All-nil, All-tail, All-weaker, AreVarying, Bool, IsFilled, IsNarrow, IsNode, IsOfTwoOr, IsSource, List, Lit, Node, Or, ReadBefore, Signal, TellProducts, TellSum, [], ap, append_assoc, arith, cond, cost_of_inputs, cost_of_nodes, cover_value, false, get_or_push, inl, inr, is_constant, is_dash, length, length-append, length-node_values, list_all, list_any, literals_of, map, node_signal, node_value, node_values, not, refl, row_matches, signal_value, subst, suc, sum_by-cons, sym, total, true, turned, weight_of_rows, zero, ℕ, ◌&&◌, ◌*◌, ◌++◌, ◌+◌, ◌<◌, ◌^◌, ◌||◌, ◌∙◌, ◌∷◌, ◌≡◌, ◌≤◌}
 use Rattle.ncl_decomp.proofs.Pairs.{or_tree, tree_nodes}
 use Rattle.ncl_decomp.proofs.Trees.{IsTreeOver, tree_over}
 use Rattle.ncl_decomp.proofs.RowLiterals.{turned_value, row_by_literals, varying_literals, few_literals, some_literal}

@@ -1,10 +1,5 @@
 -- A queue of signals that grows into a tree.
-use Rattle.std.proofs.Common.{◌≡◌, ℕ, ◌+◌, ◌<◌, ◌≤◌, List, [], ◌∷◌, ◌++◌, length, get_or, drop, sym, ap, subst, ◌∙◌, arith, append_assoc}
-use Rattle.std.proofs.lemmas.List.{drop_more, drop_all, drop-append-le, length_push, append-nil}
-use Rattle.ncl_network.specs.declared.network.Signal.{Signal}
-use Rattle.ncl_network.specs.declared.network.Node.{Node}
-use Rattle.ncl_decomp.specs.declared.pair.Joint.{Joint}
-use Rattle.ncl_decomp.specs.Pairs.{pair_node, node_signal, NodeTree, one, more, AddsTree}
+use Rattle.ncl_decomp.proofs.Terms.{AddsTree, Joint, List, Node, NodeTree, Signal, [], ap, append-nil, append_assoc, arith, drop, drop-append-le, drop_all, drop_more, get_or, length, length_push, more, node_signal, one, pair_node, subst, sym, ℕ, ◌++◌, ◌+◌, ◌<◌, ◌∙◌, ◌∷◌, ◌≡◌, ◌≤◌}
 
 -- nodes are added over the first signals of a queue, and whatever makes a tree of the rest makes one of the leaves
 pub record IsGrowing (shape : Joint) (leaves : List Signal) (before nodes : List Node) (queue : List Signal) (at : ℕ) : Type 0 where

@@ -1,15 +1,5 @@
 -- The literals of a row: a row matches where all of them are 1.
-use Rattle.std.proofs.Common.{◌≡◌, ℕ, ◌<◌, ◌≤◌, Bool, true, false, not, cond, ◌&&◌, List, [], ◌∷◌, length, map, refl, ap, arith}
-use Rattle.std.specs.Prelude.{All}
-use Rattle.std.specs.List.{list_all}
-use Rattle.std.proofs.lemmas.List.Elements.{All-nil, All-cons, All-head, All-tail}
-use Rattle.ncl_blif.specs.Meaning.{row_matches}
-use Rattle.ncl_blif.specs.declared.model.Lit.{Lit}
-use Rattle.ncl_blif.specs.declared.model.Lit.TheVariants.{Zero, One, Dash}
-use Rattle.ncl_network.specs.declared.network.Signal.{Signal}
-use Rattle.ncl_network.specs.Network.{signal_value, source_value, is_dash, is_constant, IsSource}
-use Rattle.ncl_decomp.specs.Rows.{turned, literals_of}
-use Rattle.ncl_decomp.specs.Splitting.{AreVarying}
+use Rattle.ncl_decomp.proofs.Terms.{All, All-cons, All-head, All-nil, All-tail, AreVarying, Bool, Dash, IsSource, List, Lit, One, Signal, Zero, [], ap, arith, cond, false, is_constant, is_dash, length, list_all, literals_of, map, not, refl, row_matches, signal_value, source_value, true, turned, ℕ, ◌&&◌, ◌<◌, ◌∷◌, ◌≡◌, ◌≤◌}
 
 inverse : (inverted bit : Bool) → cond (not inverted) (not bit) bit ≡ not (cond inverted (not bit) bit)
 inverse true true = refl

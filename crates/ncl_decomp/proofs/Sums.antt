@@ -1,20 +1,5 @@
 -- Sums of products that nodes make out of others: one after another, among others, with a signal more.
-use Rattle.std.proofs.Common.{◌≡◌, ℕ, ◌+◌, ◌<◌, ◌≤◌, Bool, true, false, ◌&&◌, ◌||◌, List, [], ◌∷◌, ◌++◌, length, refl, sym, ap, subst, ◌∙◌, arith, length-append, append_assoc}
-use Rattle.std.specs.Prelude.{All}
-use Rattle.std.specs.List.{list_all, list_any}
-use Rattle.std.proofs.lemmas.List.{append-nil}
-use Rattle.std.proofs.lemmas.List.Elements.{All-nil, All-cons, All-append, All-head, All-tail}
-use Rattle.std.proofs.lemmas.List.Folds.{list_any-append}
-use Rattle.std.proofs.lemmas.List.Sums.{sum_by-append, sum_by-cons}
-use Rattle.ncl_base.proofs.Tests.{All-left, All-right}
-use Rattle.ncl_network.specs.declared.network.Signal.{Signal}
-use Rattle.ncl_network.specs.declared.network.Node.{Node}
-use Rattle.ncl_network.specs.Network.{signal_value, node_values, is_constant, IsSource, ReadBefore}
-use Rattle.ncl_network.proofs.Walking.{length-node_values, IsSource-more}
-use Rattle.ncl_decomp.specs.declared.factoring.Frame.{Frame}
-use Rattle.ncl_decomp.specs.Products.{under, total, IsFilled, is_empty, whole}
-use Rattle.ncl_decomp.specs.Split.{IsNarrow}
-use Rattle.ncl_decomp.specs.Splitting.{AreVarying, IsSameSum, TellSum, AddsSum}
+use Rattle.ncl_decomp.proofs.Terms.{AddsSum, All, All-append, All-cons, All-head, All-left, All-nil, All-right, All-tail, AreVarying, Bool, Frame, IsFilled, IsNarrow, IsSameSum, IsSource, IsSource-more, List, Node, ReadBefore, Signal, TellSum, [], ap, append-nil, append_assoc, arith, false, is_constant, is_empty, length, length-append, length-node_values, list_all, list_any, list_any-append, node_values, refl, signal_value, subst, sum_by-append, sum_by-cons, sym, total, true, under, whole, ℕ, ◌&&◌, ◌++◌, ◌+◌, ◌<◌, ◌||◌, ◌∙◌, ◌∷◌, ◌≡◌, ◌≤◌}
 use Rattle.ncl_decomp.proofs.Later.{node_values-append, signal_kept, sum_same, ReadBefore-append, All-varying-more}
 
 -- ---- no node

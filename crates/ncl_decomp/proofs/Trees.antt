@@ -1,16 +1,5 @@
 -- What the nodes of a tree are like.
-use Rattle.std.proofs.Common.{◌≡◌, ℕ, ◌+◌, false, List, [], ◌∷◌, ◌++◌, length, refl, sym, ap, subst, arith}
-use Rattle.std.specs.Prelude.{All}
-use Rattle.std.proofs.lemmas.List.Elements.{All-nil, All-cons, All-head, All-tail, All-push}
-use Rattle.ncl_network.specs.declared.network.Signal.{Signal}
-use Rattle.ncl_network.specs.declared.network.Node.{Node}
-use Rattle.ncl_network.specs.Network.{is_constant, IsSource, ReadBefore}
-use Rattle.ncl_network.proofs.Walking.{IsSource-more}
-use Rattle.ncl_decomp.specs.declared.pair.Joint.{Joint}
-use Rattle.ncl_decomp.specs.declared.pair.Joint.TheVariants.{And, Or, Join}
-use Rattle.ncl_decomp.specs.Pairs.{pair_node, node_signal, NodeTree, one, more}
-use Rattle.ncl_decomp.specs.Split.{IsNarrow}
-use Rattle.ncl_decomp.specs.Splitting.{AreVarying}
+use Rattle.ncl_decomp.proofs.Terms.{All, All-cons, All-head, All-nil, All-push, All-tail, And, AreVarying, IsNarrow, IsSource, IsSource-more, Join, Joint, List, Node, NodeTree, Or, ReadBefore, Signal, [], ap, arith, false, is_constant, length, more, node_signal, one, pair_node, refl, subst, sym, ℕ, ◌++◌, ◌+◌, ◌∷◌, ◌≡◌}
 use Rattle.ncl_decomp.proofs.Pairs.{queue_there}
 
 both : (P : Signal → Type 0) (s t : Signal) → P s → P t → All P (s ∷ t ∷ [])

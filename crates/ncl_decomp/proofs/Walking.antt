@@ -1,21 +1,5 @@
 -- The nodes of a network, one node further.
-use Rattle.std.proofs.Common.{◌≡◌, ℕ, zero, suc, ◌+◌, Bool, true, false, not, cond, List, [], ◌∷◌, ◌++◌, length, map, get_or, inl, inr, refl, sym, ap, subst, ◌∙◌, arith, length-append, zero-add}
-use Rattle.std.specs.Prelude.{All, Contains}
-use Rattle.std.proofs.lemmas.List.{length_push, map_push, get_or_push, get_or_append_left}
-use Rattle.std.proofs.lemmas.List.Elements.{All-push, All-append, All-weaker, All-map}
-use Rattle.std.proofs.lemmas.List.Sums.{sum_by_push, sum_by-append}
-use Rattle.ncl_blif.specs.Meaning.{cover_value}
-use Rattle.ncl_blif.specs.Model.{weight_of_rows}
-use Rattle.ncl_network.specs.declared.network.SignalSource.{SignalSource}
-use Rattle.ncl_network.specs.declared.network.SignalSource.TheVariants.{Input, Node as FromNode, Const}
-use Rattle.ncl_network.specs.declared.network.Signal.{Signal}
-use Rattle.ncl_network.specs.declared.network.Node.{Node}
-use Rattle.ncl_network.specs.Network.{source_value, signal_value, node_value, node_values, is_constant, IsSource, ReadBefore}
-use Rattle.ncl_network.proofs.Walking.{node_values-push, length-node_values}
-use Rattle.ncl_decomp.specs.Rows.{turned}
-use Rattle.ncl_decomp.specs.Images.{image_of_source, image_of}
-use Rattle.ncl_decomp.specs.Split.{IsNarrow, IsOfTwoOr, cost_of_inputs}
-use Rattle.ncl_decomp.specs.Splitting.{AreVarying, Becomes, AddsNode, AreSplit}
+use Rattle.ncl_decomp.proofs.Terms.{AddsNode, All, All-append, All-map, All-push, All-weaker, AreSplit, AreVarying, Becomes, Bool, Const, Contains, FromNode, Input, IsNarrow, IsOfTwoOr, IsSource, List, Node, ReadBefore, Signal, SignalSource, [], ap, arith, cond, cost_of_inputs, cover_value, false, get_or, get_or_append_left, get_or_push, image_of, image_of_source, inl, inr, is_constant, length, length-append, length-node_values, length_push, map, map_push, node_value, node_values, node_values-push, not, refl, signal_value, source_value, subst, suc, sum_by-append, sum_by_push, sym, true, turned, weight_of_rows, zero, zero-add, ℕ, ◌++◌, ◌+◌, ◌∙◌, ◌∷◌, ◌≡◌}
 use Rattle.ncl_decomp.proofs.RowLiterals.{turned_value}
 use Rattle.ncl_decomp.proofs.Later.{node_values-append, signals_kept, ReadBefore-append, AreVarying-more}
 

@@ -1,21 +1,6 @@
 -- All nodes of a network, one after another, and then the network without those that reach no output.
-use Rattle.std.proofs.Common.{◌≡◌, ℕ, ◌+◌, ◌*◌, ◌<◌, ◌≤◌, Bool, List, [], ◌∷◌, ◌++◌, length, map, take, get_or, Some, inl, inr, sym, ap, subst, ◌∙◌, arith}
-use Rattle.std.specs.Prelude.{All}
-use Rattle.std.proofs.lemmas.List.{take_more, length-take-le, length-map}
-use Rattle.std.proofs.lemmas.List.Sums.{sum_by_more, sum_by-take-le}
-use Rattle.std.proofs.lemmas.Bool.Decides.{nat_tests}
-use Rattle.std.proofs.lemmas.Option.{slice_get-get_or}
-use Rattle.ncl_blif.specs.Model.{most_size, weight_of_rows}
-use Rattle.ncl_network.specs.declared.network.Signal.{Signal}
-use Rattle.ncl_network.specs.declared.network.Node.{Node}
-use Rattle.ncl_network.specs.declared.network.Network.{Network}
-use Rattle.ncl_network.specs.Network.{node_values, answer_of, IsSource, ReachesOutput, IsNode, IsNetwork}
-use Rattle.ncl_network.specs.Prune.{IsInOrder, IsPlaced, AreLeft, moved_signal, moved_node}
-use Rattle.ncl_network.proofs.Marking.{all_placed, node_reads}
-use Rattle.ncl_network.proofs.Pruned.{IsInOrder-network, All-left, sum_by-left, moved_constant}
-use Rattle.ncl_decomp.specs.Images.{image_of}
-use Rattle.ncl_decomp.specs.Split.{IsNarrow, IsOfTwoOr, IsSplit, cost_of_inputs, cost_of_nodes}
-use Rattle.ncl_decomp.specs.Splitting.{AddsNode, AreSplit}
+use Rattle.ncl_decomp.proofs.Terms.{AddsNode, All, AreLeft, AreSplit, Bool, IsInOrder, IsInOrder-network, IsNarrow, IsNetwork, IsNode, IsOfTwoOr, IsPlaced, IsSource, IsSplit, List, Network, Node, ReachesOutput, Signal, Some, [], all_placed, answer_of, ap, arith, cost_of_inputs, cost_of_nodes, get_or, image_of, inl, inr, length, length-map, length-take-le, map, most_size, moved_constant, moved_node, moved_signal, nat_tests, node_reads, node_values, slice_get-get_or, subst, sum_by-left, sum_by-take-le, sum_by_more, sym, take, take_more, weight_of_rows, ℕ, ◌*◌, ◌++◌, ◌+◌, ◌<◌, ◌∙◌, ◌∷◌, ◌≡◌, ◌≤◌}
+use Rattle.ncl_network.proofs.Pruned.{All-left}
 use Rattle.ncl_decomp.proofs.Walking.{image_values, images_exist, AreSplit-more}
 
 -- ---- a node in its turn

@@ -1,14 +1,5 @@
 -- Delays as the lines of a text are gone through.
-use Rattle.std.proofs.Common.{◌≡◌, ℕ, true, List, [], ◌∷◌, ◌++◌, length, if◌then◌else◌, Some, None, refl, sym, ap, ◌∙◌}
-use Rattle.std.specs.Option.{option_or}
-use Rattle.ncl_netlist.specs.Names.{AllDiffer}
-use Rattle.ncl_base.specs.TextLines.{NumberedText}
-use Rattle.ncl_delay.specs.declared.statement.Statement.{Statement}
-use Rattle.ncl_delay.specs.declared.fault.DelayFault.{DelayFault}
-use Rattle.ncl_delay.specs.declared.fault.DelayFault.TheVariants.{UnknownCell}
-use Rattle.ncl_delay.specs.Delays.{DelaysData}
-use Rattle.ncl_delay.specs.DelayText.{said_in, is_known, statement_fault, line_fault, fault_in, stated_delays}
-use Rattle.ncl_delay.specs.Put.{put_edges, unstated}
+use Rattle.ncl_delay.proofs.Terms.{AllDiffer, DelayFault, DelaysData, List, None, NumberedText, Some, Statement, UnknownCell, [], ap, fault_in, if◌then◌else◌, is_known, length, line_fault, option_or, put_edges, refl, said_in, stated_delays, statement_fault, sym, true, unstated, ℕ, ◌++◌, ◌∙◌, ◌∷◌, ◌≡◌}
 use Rattle.ncl_delay.proofs.FirstOf.{option_or-none, option_or_assoc}
 use Rattle.ncl_delay.proofs.Puts.{put_edges-stated, unstated-stated}
 

@@ -1,6 +1,5 @@
 -- The first of options that is there.
-use Rattle.std.proofs.Common.{◌≡◌, Option, Some, None, refl}
-use Rattle.std.specs.Option.{option_or}
+use Rattle.ncl_delay.proofs.Terms.{None, Option, Some, option_or, refl, ◌≡◌}
 
 pub option_or-none : {X : Type 0} (o : Option X) → option_or o None ≡ o
 option_or-none None = refl

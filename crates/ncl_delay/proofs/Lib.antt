@@ -1,3 +1,4 @@
+mod Terms
 pub mod Saying
 pub mod Told
 pub mod FirstOf

@@ -1,21 +1,6 @@
 -- Delays after one more line.
-use Rattle.std.proofs.Common.{◌≡◌, ℕ, suc, ◌+◌, Bool, true, false, not, ◌||◌, cond, List, [], ◌∷◌, ◌++◌, length, map, set, Option, Some, None, refl, sym, ap, subst, ◌∙◌, arith}
-use Rattle.std.specs.Prelude.{unwrap_or}
-use Rattle.std.specs.List.{list_any, AllByRecursion}
-use Rattle.std.specs.Option.{option_or}
-use Rattle.std.proofs.lemmas.Map.Keys.{IsDistinct-head, IsDistinct-tail}
-use Rattle.std.proofs.lemmas.Simd.{splat_is_map}
-use Rattle.ncl_netlist.specs.Names.{same_name, AllDiffer, name_number}
-use Rattle.ncl_netlist.proofs.NameLists.{equal_names}
-use Rattle.ncl_base.specs.TextLines.{NumberedText}
-use Rattle.ncl_delay.specs.declared.delays.Edges.{Edges}
-use Rattle.ncl_delay.specs.declared.statement.Subject.{Subject}
-use Rattle.ncl_delay.specs.declared.statement.Subject.TheVariants.{Default, Source, Sink, Cell}
-use Rattle.ncl_delay.specs.declared.statement.Statement.{Statement}
-use Rattle.ncl_delay.specs.Delays.{DelaysData}
-use Rattle.ncl_delay.specs.DelayText.{said_in, said_of, same_subject, stated, stated_delays, unit_edges, is_known}
+use Rattle.ncl_delay.proofs.Terms.{AllByRecursion, AllDiffer, Bool, Cell, Default, DelaysData, Edges, IsDistinct-head, IsDistinct-tail, List, None, NumberedText, Option, Sink, Some, Source, Statement, Subject, [], ap, arith, cond, equal_names, false, is_known, length, list_any, map, name_number, not, option_or, put_edges, refl, said_in, said_of, same_name, same_subject, set, splat_is_map, stated, stated_delays, subst, suc, sym, true, unit_edges, unstated, unwrap_or, ℕ, ◌++◌, ◌+◌, ◌||◌, ◌∙◌, ◌∷◌, ◌≡◌}
 use Rattle.ncl_delay.proofs.FirstOf.{option_or-none, option_or_assoc}
-use Rattle.ncl_delay.specs.Put.{put_edges, unstated}
 
 -- what is stated of a subject with one more line: what that line says of it, or what was stated
 stated-push : (subject : Subject) (lines : List NumberedText) (line : NumberedText) → stated subject (lines ++ line ∷ []) ≡ option_or (said_of subject (said_in line)) (stated subject lines)

@@ -1,6 +1,5 @@
 -- The first words of a line, and what they state.
-use Rattle.std.proofs.Common.{◌≡◌, ℕ, ◌<◌, ◌≤◌, List, [], ◌∷◌, length, map, take, get_or, Bor, refl, sym, ap, ◌∙◌, arith}
-use Rattle.ncl_delay.specs.DelayText.{edges_text, subject_text, cell_text, stating, said}
+use Rattle.ncl_delay.proofs.Terms.{Bor, List, [], ap, arith, cell_text, edges_text, get_or, length, map, refl, said, stating, subject_text, sym, take, ℕ, ◌<◌, ◌∙◌, ◌∷◌, ◌≡◌, ◌≤◌}
 
 -- what the first five words of a line state is what all of them state
 said-take : (words : List (List ℕ)) → said (take 5 words) ≡ said words

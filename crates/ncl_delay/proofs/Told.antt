@@ -1,13 +1,5 @@
 -- The lines of a text that say something, as they are gone through.
-use Rattle.std.proofs.Common.{◌≡◌, ℕ, ◌+◌, true, cond, List, [], ◌∷◌, ◌++◌, length, map, filter, take, drop, Option, Some, None, Bor, sym, ap, ◌∙◌}
-use Rattle.std.specs.Iterator.{Yields}
-use Rattle.std.specs.List.{slice_split, enumerate_from}
-use Rattle.std.proofs.lemmas.Iterator.{YieldsList}
-use Rattle.std.proofs.lemmas.Iterator.Consumers.{YieldsList-so_far, YieldsList-turn, YieldsList-end}
-use Rattle.std.proofs.lemmas.List.{map-append, take_more, take-append-drop}
-use Rattle.std.proofs.lemmas.List.Elements.{filter-append}
-use Rattle.ncl_base.specs.TextLines.{NumberedText}
-use Rattle.ncl_delay.specs.Lines.{is_feed, trimmed, tells, numbered, told_lines}
+use Rattle.ncl_delay.proofs.Terms.{Bor, List, None, NumberedText, Option, Some, Yields, YieldsList, YieldsList-end, YieldsList-so_far, YieldsList-turn, [], ap, cond, drop, enumerate_from, filter, filter-append, is_feed, length, map, map-append, numbered, slice_split, sym, take, take-append-drop, take_more, tells, told_lines, trimmed, true, ℕ, ◌++◌, ◌+◌, ◌∙◌, ◌∷◌, ◌≡◌}
 
 -- the lines of a text with their places
 abbrev pub parts_of : List ℕ → List (ℕ × List ℕ)

@@ -1,11 +1,5 @@
 -- Words as the lines of a text are gone through.
-use Rattle.std.proofs.Common.{◌≡◌, ℕ, ◌+◌, Bool, List, [], ◌∷◌, ◌++◌, length, map, Some, None, sym, ap, ◌∙◌, arith}
-use Rattle.std.specs.Option.{option_or}
-use Rattle.std.proofs.lemmas.List.{length-map, map-append}
-use Rattle.ncl_base.specs.Words.{text_of}
-use Rattle.ncl_base.specs.TextLines.{NumberedText}
-use Rattle.ncl_delay.specs.declared.fault.WordsFault.{WordsFault}
-use Rattle.ncl_delay.specs.WordText.{word_fault, words_fault}
+use Rattle.ncl_delay.proofs.Terms.{Bool, List, None, NumberedText, Some, WordsFault, [], ap, arith, length, length-map, map, map-append, option_or, sym, text_of, word_fault, words_fault, ℕ, ◌++◌, ◌+◌, ◌∙◌, ◌∷◌, ◌≡◌}
 use Rattle.ncl_delay.proofs.FirstOf.{option_or-none, option_or_assoc}
 
 words_fault-append : (width before : ℕ) (lines more : List NumberedText) → words_fault width before (lines ++ more) ≡ option_or (words_fault width before lines) (words_fault width (before + length lines) more)

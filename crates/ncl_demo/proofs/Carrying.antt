@@ -1,16 +1,5 @@
 -- The carry, from stage to stage.
-use Rattle.std.proofs.Common.{◌≡◌, ℕ, ◌+◌, ◌-◌, ◌*◌, ◌/◌, ◌%◌, ◌^◌, ◌<◌, ◌≤◌, ◌==◌, zero, suc, Bool, true, false, eqb, List, [], ◌∷◌, ◌++◌, map, length, get_or, take, drop, refl, sym, ap, ◌∙◌, subst, arith}
-use Rattle.std.specs.List.{range_with_len, flat_map, HoldsAt}
-use Rattle.std.proofs.lemmas.List.{append_assoc, append-nil, length-append, get_or_at, get_or-append-add, take_at, drop_at, drop-drop}
-use Rattle.std.proofs.lemmas.List.Concat.{flat_map-append}
-use Rattle.std.proofs.lemmas.List.FromFn.{map-range_with_len_more, length-map-range_with_len, length-range_with_len}
-use Rattle.std.proofs.lemmas.Nat.{shr-shr, shr_below}
-use Rattle.ncl_base.proofs.Ranges.{range_with_len-more}
-use Rattle.ncl_blif.specs.declared.model.Model.{Model}
-use Rattle.ncl_blif.specs.Meaning.{Gives, Computes}
-use Rattle.ncl_demo.specs.Adding.{bit_value, ones_of, carry_of, sum_of, stage_answer, bits_in}
-use Rattle.ncl_demo.specs.Adder.{IsStage, IsAdder}
-use Rattle.ncl_demo.specs.Offered.{bit_of, in_turn, carry_and_sums}
+use Rattle.ncl_demo.proofs.Terms.{Bool, Computes, Gives, HoldsAt, IsAdder, IsStage, List, Model, [], ap, append-nil, append_assoc, arith, bit_of, bit_value, bits_in, carry_and_sums, carry_of, drop, drop-drop, drop_at, false, flat_map, flat_map-append, get_or, get_or-append-add, get_or_at, in_turn, length, length-append, length-map-range_with_len, map, map-range_with_len_more, ones_of, range_with_len, range_with_len-more, refl, shr-shr, shr_below, stage_answer, subst, suc, sum_of, sym, take, take_at, true, zero, ℕ, ◌%◌, ◌*◌, ◌++◌, ◌+◌, ◌-◌, ◌/◌, ◌<◌, ◌==◌, ◌^◌, ◌∙◌, ◌∷◌, ◌≡◌}
 
 -- one more bit of both numbers
 pub in_turn_more : (n a b : ℕ) → in_turn (n + 1) a b ≡ in_turn n a b ++ bit_of a n ∷ bit_of b n ∷ []

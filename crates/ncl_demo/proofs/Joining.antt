@@ -1,16 +1,5 @@
 -- Stages, one after another.
-use Rattle.std.proofs.Common.{◌≡◌, ℕ, ◌+◌, ◌-◌, ◌*◌, ◌<◌, ◌≤◌, zero, suc, List, [], ◌∷◌, ◌++◌, length, get_or, sym, ap, ◌∙◌, subst, ⊎_elim, arith}
-use Rattle.std.specs.Prelude.{All, sum, sum_by}
-use Rattle.std.specs.List.{HoldsAt}
-use Rattle.std.proofs.lemmas.Bool.{cases_lt}
-use Rattle.std.proofs.lemmas.List.{length_push, get_or_append_left, get_or_push}
-use Rattle.std.proofs.lemmas.List.Sums.{sum_by-le, sum_by-cons}
-use Rattle.ncl_blif.specs.declared.model.Cover.{Cover}
-use Rattle.ncl_blif.specs.declared.model.Model.{Model}
-use Rattle.ncl_blif.specs.Model.{weight_of_rows, size_of_model, AreJoined, AreModels}
-use Rattle.ncl_network.specs.Network.{weight_of_model}
-use Rattle.ncl_compile.specs.Size.{widths_of, compile_size, IsSlim, CanBeCompiled}
-use Rattle.ncl_demo.specs.Adder.{IsStage, IsAdder}
+use Rattle.ncl_demo.proofs.Terms.{AreJoined, AreModels, CanBeCompiled, Cover, HoldsAt, IsAdder, List, Model, [], arith, cases_lt, get_or, get_or_append_left, get_or_push, length, length_push, size_of_model, subst, suc, sum, sum_by, sum_by-cons, sum_by-le, sym, weight_of_model, weight_of_rows, widths_of, ℕ, ⊎_elim, ◌++◌, ◌+◌, ◌<◌, ◌∙◌, ◌∷◌, ◌≡◌, ◌≤◌}
 use Rattle.ncl_demo.proofs.Staging.{Serves}
 
 -- the first stages of an adder, so many

@@ -1,3 +1,4 @@
+mod Terms
 pub mod Ranges
 pub mod Values
 pub mod Staging

@@ -1,13 +1,5 @@
 -- Numbers in a row.
-use Rattle.std.proofs.Common.{◌≡◌, ℕ, ◌+◌, ◌<◌, ◌≤◌, Bool, false, List, [], ◌∷◌, ◌++◌, map, length, get_or, take, drop, nat_eq, refl, sym, ap, ◌∙◌, subst, arith}
-use Rattle.std.specs.Prelude.{All, Contains}
-use Rattle.std.specs.List.{range_with_len, flat_map, IsDistinct}
-use Rattle.std.proofs.lemmas.Bool.{ne_eqb}
-use Rattle.std.proofs.lemmas.List.{append_assoc, length-take-le, length-drop, get_or-take, get_or-drop}
-use Rattle.std.proofs.lemmas.List.FromFn.{length-range_with_len, get_or-range_with_len}
-use Rattle.std.proofs.lemmas.Map.Keys.{IsDistinct-from_apart}
-use Rattle.ncl_base.proofs.Ranges.{range_with_len-more}
-use Rattle.ncl_blif.proofs.Fitting.{map-range}
+use Rattle.ncl_demo.proofs.Terms.{All, Bool, Contains, IsDistinct, IsDistinct-from_apart, List, [], ap, append_assoc, arith, drop, false, get_or, get_or-drop, get_or-range_with_len, get_or-take, length, length-drop, length-range_with_len, length-take-le, map, map-range, nat_eq, ne_eqb, range_with_len, range_with_len-more, sym, take, ℕ, ◌++◌, ◌+◌, ◌<◌, ◌∙◌, ◌∷◌, ◌≡◌, ◌≤◌}
 
 -- the numbers below one, and the next two
 pub range_two : (n : ℕ) → range_with_len 0 n ++ n ∷ (n + 1) ∷ [] ≡ range_with_len 0 (n + 2)

@@ -1,21 +1,5 @@
 -- The model of a stage.
-use Rattle.std.proofs.Common.{◌≡◌, ◌≢◌, ℕ, ◌+◌, ◌-◌, ◌*◌, ◌<◌, ◌≤◌, min, zero, suc, Bool, true, false, cond, ltb, eqb, List, [], ◌∷◌, ◌++◌, map, length, get_or, take, drop, nat_eq, refl, sym, ap, ◌∙◌, subst, codes, decimal, ◌⊎◌, ⊎_elim, arith}
-use Rattle.std.specs.Prelude.{All, Contains, sum_by}
-use Rattle.std.specs.List.{range_with_len, IsDistinct}
-use Rattle.std.proofs.lemmas.Bool.{lt-ltb, le-ltb, eq-eqb, ne_eqb}
-use Rattle.std.proofs.lemmas.List.{length-append, length-drop, take_all, get_or-drop, drop-drop, map-append}
-use Rattle.std.proofs.lemmas.List.Elements.{All-from_recursion, All-append, All-cons, All-weaker, All-contains}
-use Rattle.std.proofs.lemmas.List.FromFn.{length-range_with_len}
-use Rattle.ncl_blif.specs.declared.model.Lit.{Lit}
-use Rattle.ncl_blif.specs.declared.model.Cover.{Cover}
-use Rattle.ncl_blif.specs.declared.model.Model.{Model}
-use Rattle.ncl_blif.specs.Model.{signals_of, Depends, reads, through, weight_of_rows, size_of_model, IsModel}
-use Rattle.ncl_blif.specs.Meaning.{cover_value, Fits, Gives}
-use Rattle.ncl_blif.proofs.Fitting.{map-agree_on}
-use Rattle.ncl_demo.specs.declared.covers.TheConstants.{HALF_CARRY, HALF_SUM, FULL_CARRY, FULL_SUM}
-use Rattle.ncl_demo.specs.Adding.{bits_in, bits_out, carry_of, sum_of, stage_answer}
-use Rattle.ncl_demo.specs.Adder.{IsStage}
-use Rattle.ncl_demo.specs.Covers.{covers_of}
+use Rattle.ncl_demo.proofs.Terms.{All, All-append, All-cons, All-contains, All-from_recursion, All-weaker, Bool, Contains, Cover, Depends, FULL_CARRY, FULL_SUM, Gives, HALF_CARRY, HALF_SUM, IsDistinct, IsModel, IsStage, List, Lit, Model, [], ap, arith, bits_in, carry_of, codes, cond, cover_value, covers_of, decimal, drop, drop-drop, eq-eqb, eqb, false, get_or, get_or-drop, le-ltb, length, length-append, length-drop, length-range_with_len, lt-ltb, ltb, map, map-agree_on, map-append, min, nat_eq, ne_eqb, range_with_len, reads, refl, signals_of, size_of_model, stage_answer, subst, suc, sum_of, sym, take, take_all, through, true, weight_of_rows, zero, ℕ, ⊎_elim, ◌*◌, ◌++◌, ◌+◌, ◌-◌, ◌<◌, ◌∙◌, ◌∷◌, ◌≡◌, ◌≢◌, ◌≤◌, ◌⊎◌}
 use Rattle.ncl_demo.proofs.Ranges.{range_two, in_range, range_below, range_distinct, map-part}
 use Rattle.ncl_demo.proofs.Values.{half_carry, half_sum, full_carry, full_sum}
 

@@ -1,8 +1,5 @@
 -- What the rows of the covers give.
-use Rattle.std.proofs.Common.{◌≡◌, Bool, true, false, [], ◌∷◌, refl}
-use Rattle.ncl_blif.specs.Meaning.{cover_value}
-use Rattle.ncl_demo.specs.declared.covers.TheConstants.{HALF_CARRY, HALF_SUM, FULL_CARRY, FULL_SUM}
-use Rattle.ncl_demo.specs.Adding.{carry_of, sum_of}
+use Rattle.ncl_demo.proofs.Terms.{Bool, FULL_CARRY, FULL_SUM, HALF_CARRY, HALF_SUM, [], carry_of, cover_value, false, refl, sum_of, true, ◌∷◌, ◌≡◌}
 
 -- the carry of two bits
 pub half_carry : (a b : Bool) → cover_value true HALF_CARRY (a ∷ b ∷ []) ≡ carry_of false a b

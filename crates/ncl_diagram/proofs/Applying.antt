@@ -1,14 +1,5 @@
 -- What one operation makes, from what it made at the operands' branches.
-use Rattle.std.proofs.Common.{◌≡◌, ◌≢◌, ℕ, zero, suc, ◌+◌, ◌-◌, ◌<◌, ◌≤◌, ◌⊎◌, inl, inr, List, [], ◌∷◌, ◌++◌, Bool, true, false, length, length-append, map, set, slice_get, Some, None, Option, sym, ◌∙◌, ap, refl, arith, subst}
-use Rattle.std.proofs.lemmas.Bool.{cases_lt}
-use Rattle.ncl_gates.specs.declared.kind.Kind.{Kind}
-use Rattle.ncl_diagram.specs.declared.nodes.Node.{Node}
-use Rattle.ncl_space.specs.declared.space.Ref.{Ref}
-use Rattle.ncl_diagram.specs.declared.memo.Key.{Key}
-use Rattle.ncl_diagram.specs.Nodes.{level_of, table_from, branch, IsCanonical, Grown, bead_of}
-use Rattle.ncl_diagram.specs.Operands.{There, Least, gate_from}
-use Rattle.ncl_diagram.specs.Finding.{Leads, Joins, HasNoRoom, IsAnswer, IsBeadOf, AddsBeads, Lacks}
-use Rattle.ncl_diagram.specs.Memo.{places, AreAnswers}
+use Rattle.ncl_diagram.proofs.Terms.{AddsBeads, AreAnswers, Bool, Grown, HasNoRoom, IsAnswer, IsBeadOf, IsCanonical, Joins, Key, Kind, Lacks, Leads, Least, List, Node, None, Option, Ref, Some, There, [], ap, arith, bead_of, branch, cases_lt, false, gate_from, inl, inr, length, length-append, level_of, map, places, refl, set, slice_get, subst, suc, sym, table_from, true, zero, ℕ, ◌++◌, ◌+◌, ◌-◌, ◌<◌, ◌∙◌, ◌∷◌, ◌≡◌, ◌≢◌, ◌≤◌, ◌⊎◌}
 use Rattle.ncl_diagram.proofs.Growth.{grown_along, grown_itself, branch_grown, there_grown, above_grown, above_back, answer_grown, adds_grown}
 use Rattle.ncl_diagram.proofs.Joining.{leads_node}
 use Rattle.ncl_diagram.proofs.MemoLaws.{answer_before}

@@ -1,9 +1,5 @@
 -- Tests whether a table is one of some beads.
-use Rattle.std.proofs.Common.{◌≡◌, List, ◌++◌, Bool, true, false, ◌||◌, ◌⊎◌, inl, inr, ◌∙◌, ap, refl}
-use Rattle.std.specs.Ordering.{bool_cmp, eq_by_cmp}
-use Rattle.std.specs.Cmp.Lexicographic.{slice_cmp}
-use Rattle.std.proofs.lemmas.List.Folds.{list_any-append}
-use Rattle.ncl_space.specs.Beads.{is_bead}
+use Rattle.ncl_diagram.proofs.Terms.{Bool, List, ap, bool_cmp, eq_by_cmp, false, inl, inr, is_bead, list_any-append, refl, slice_cmp, true, ◌++◌, ◌||◌, ◌∙◌, ◌≡◌, ◌⊎◌}
 
 -- of two lists in a row, in the one or in the other
 pub any_append : (t : List Bool) (xs ys : List (List Bool)) → is_bead (xs ++ ys) t ≡ (is_bead xs t || is_bead ys t)

@@ -1,11 +1,6 @@
 -- Places with one table are one place.
-use Rattle.std.proofs.Common.{◌≡◌, ◌≢◌, ℕ, zero, suc, ◌+◌, ◌^◌, ◌<◌, ◌≤◌, ◌⊎◌, inl, inr, List, [], ◌∷◌, ◌++◌, Bool, true, false, if◌then◌else◌, nat_eq, length, slice_get, Some, None, Option, sym, ◌∙◌, ap, refl, arith, subst, length-append}
-use Rattle.ncl_space.proofs.TableLaws.{pow_suc}
-use Rattle.std.proofs.lemmas.Bool.Decides.{nat_tests}
-use Rattle.std.proofs.lemmas.Option.{slice_get_cases}
+use Rattle.ncl_diagram.proofs.Terms.{Bool, IsCanonical, List, Node, None, Option, Some, [], ap, arith, bit_or, branch, child, false, if◌then◌else◌, inl, inr, length, length-append, level_of, nat_eq, nat_tests, pow_suc, refl, slice_get, slice_get_cases, subst, suc, sym, table_from, true, zero, ℕ, ◌++◌, ◌+◌, ◌<◌, ◌^◌, ◌∙◌, ◌∷◌, ◌≡◌, ◌≢◌, ◌≤◌, ◌⊎◌}
 use Rattle.std.proofs.Math.ListN.{get_or}
-use Rattle.ncl_diagram.specs.Nodes.{bit_or, level_of, child, branch, table_from, IsCanonical}
-use Rattle.ncl_diagram.specs.declared.nodes.Node.{Node}
 
 pub length-table_from : (nodes : List Node) (m level place : ℕ) → length (table_from nodes m level place) ≡ 2 ^ m
 length-table_from nodes zero level place = refl

@@ -1,30 +1,6 @@
 -- How many keys are reached from the operands of one.
-use Rattle.std.proofs.Common.{◌≡◌, ℕ, zero, suc, ◌+◌, ◌-◌, ◌*◌, ◌<◌, ◌≤◌, ◌⊎◌, inl, inr, List, [], ◌∷◌, ◌++◌, Bool, true, false, ◌||◌, if◌then◌else◌, cond, nat_eq, length, map, slice_get, Some, None, sym, ◌∙◌, ap, refl, arith, subst, length-append}
-use Rattle.std.specs.Prelude.{⊤}
-use Rattle.std.proofs.lemmas.Grind.{common_steps}
-use Rattle.std.proofs.lemmas.Bool.Decides.{nat_tests}
-use Rattle.std.proofs.lemmas.Bool.{cases_lt}
-use Rattle.std.proofs.lemmas.Cmp.{and_equiv, nat_eq_equiv, on_equiv}
-use Rattle.std.proofs.lemmas.List.{length-map}
-use Rattle.std.proofs.lemmas.Map.Made.{length-le_from_is_member}
-use Rattle.std.proofs.lemmas.Nat.{mul-le}
-use Rattle.std.proofs.Math.Nat.{mul_assoc, mul-one}
-use Rattle.std.specs.Cmp.{IsEquivalence}
+use Rattle.ncl_diagram.proofs.Terms.{AddsKeys, Beads, Bool, Grown, IsCanonical, IsDistinct, IsEquivalence, IsFilled, Key, List, Node, None, Reaches, ReachesKey, Some, SpaceData, There, [], along, and_equiv, ap, arith, bead_count, bead_of, beads_of, bit_or, bool_cmp, branch, cases_lt, child, common_steps, cond, contains-distinct_beads, distinct_beads, distinct_count, eq_by_cmp, false, here, if◌then◌else◌, inl, inr, is_bead, is_key, len-from_list, len_grows, length, length-append, length-le_from_is_member, length-map, level_of, list_any, map, mul-le, mul-one, mul_assoc, nat_eq, nat_eq_equiv, nat_tests, on_equiv, one_set, one_table, places, product, reach_of, refl, same_from_both, slice_cmp, slice_get, subst, suc, sym, table_from, table_order, true, zero, ℕ, ⊤, ◌*◌, ◌++◌, ◌+◌, ◌-◌, ◌<◌, ◌||◌, ◌∙◌, ◌∷◌, ◌≡◌, ◌≤◌, ◌⊎◌}
 use Rattle.std.specs.FinSet as set
-use Rattle.std.specs.List.{IsDistinct, list_any}
-use Rattle.std.specs.Ordering.{bool_cmp, eq_by_cmp}
-use Rattle.std.specs.Cmp.Lexicographic.{slice_cmp}
-use Rattle.ncl_base.proofs.Tests.{same_from_both}
-use Rattle.ncl_space.specs.Beads.{Beads, bead_count, beads_of, distinct_beads, is_bead}
-use Rattle.ncl_space.specs.Space.{SpaceData}
-use Rattle.ncl_space.proofs.BeadLaws.{contains-distinct_beads, distinct_count, len-from_list, one_set, one_table, table_order}
-use Rattle.ncl_space.proofs.SpaceLaws.{len_grows}
-use Rattle.ncl_diagram.specs.declared.memo.Key.{Key}
-use Rattle.ncl_diagram.specs.declared.nodes.Node.{Node}
-use Rattle.ncl_diagram.specs.Memo.{is_key, places}
-use Rattle.ncl_diagram.specs.Nodes.{bead_of, bit_or, branch, child, level_of, table_from, Grown, IsCanonical}
-use Rattle.ncl_diagram.specs.Operands.{IsFilled, There}
-use Rattle.ncl_diagram.specs.Steps.{AddsKeys, Reaches, ReachesKey, along, here, product, reach_of}
 use Rattle.ncl_diagram.proofs.BeadTests.{either}
 use Rattle.ncl_diagram.proofs.Canonical.{get_within, length-table_from, one_place}
 use Rattle.ncl_diagram.proofs.Growth.{branch_before, get_there, table_grown}

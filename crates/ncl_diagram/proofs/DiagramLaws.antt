@@ -1,27 +1,6 @@
 -- A diagram is a space, and how the space changes where nodes come or the last ones go.
-use Rattle.std.proofs.Common.{◌≡◌, ℕ, zero, suc, ◌+◌, ◌*◌, ◌^◌, ◌<◌, ◌≤◌, ◌⊎◌, inl, inr, Bool, true, false, ◌||◌, List, [], ◌∷◌, length, map, take, nat_le, sym, ap, ◌∙◌, refl, arith}
-use Rattle.std.specs.Prelude.{Result, Ok, Err, IfOk, OnOk, IsErrOf}
+use Rattle.ncl_diagram.proofs.Terms.{Adds, All, Bool, CountsMarks, DiagramData, Err, Full, Grown, Held, IfOk, IsCanonical, IsDiagram, IsErrOf, IsLive, IsNew, IsSpace, Keeps, Leaves, List, Makes, Mark, Node, Ok, OnOk, Ref, Releases, Result, SpaceFault, There, Within, [], ap, arith, bead_count, beads_of, constant_table, diagram_space, distinct_beads, false, fits, from_nat_le, from_nat_lt, held_of, inl, inr, is_bead, length, length-take-le, map, nat_le, nat_le-from, nat_lt-from, nat_tests, operand_bound, product, refl, releases_to, suc, sym, table_from, table_order, take, true, zero, ℕ, ◌*◌, ◌+◌, ◌<◌, ◌^◌, ◌||◌, ◌∙◌, ◌∷◌, ◌≡◌, ◌≤◌, ◌⊎◌}
 use Rattle.std.specs.FinSet as set
-use Rattle.std.specs.List.{All}
-use Rattle.std.proofs.lemmas.Bool.Decides.{nat_tests}
-use Rattle.std.proofs.lemmas.List.{length-take-le}
-use Rattle.ncl_space.specs.declared.space.Ref.{Ref}
-use Rattle.ncl_space.specs.declared.space.Mark.{Mark}
-use Rattle.ncl_space.specs.declared.space.SpaceFault.{SpaceFault}
-use Rattle.ncl_space.specs.declared.space.SpaceFault.TheVariants.{Full}
-use Rattle.ncl_space.specs.Beads.{bead_count, beads_of, distinct_beads, is_bead}
-use Rattle.ncl_space.specs.Functions.{constant_table}
-use Rattle.ncl_space.specs.Space.{IsLive, IsNew, IsSpace, Keeps, Makes, Releases, Adds, Within, fits}
-use Rattle.ncl_space.proofs.BeadLaws.{table_order}
-use Rattle.ncl_space.proofs.CountedMarks.{CountsMarks, from_nat_le, from_nat_lt, nat_le-from, nat_lt-from, releases_to}
-use Rattle.ncl_diagram.specs.declared.nodes.Node.{Node}
-use Rattle.ncl_diagram.specs.Nodes.{table_from, IsCanonical, Grown}
-use Rattle.ncl_diagram.specs.Operands.{There}
-use Rattle.ncl_diagram.specs.Holding.{Held}
-use Rattle.ncl_diagram.specs.Holding.{held_of}
-use Rattle.ncl_diagram.specs.Leaves.{Leaves}
-use Rattle.ncl_diagram.specs.Diagram.{DiagramData, diagram_space, IsDiagram}
-use Rattle.ncl_diagram.specs.Steps.{operand_bound, product}
 use Rattle.ncl_diagram.proofs.Canonical.{length-table_from, one_place}
 use Rattle.ncl_diagram.proofs.Growth.{table_grown}
 use Rattle.ncl_diagram.proofs.Holding.{beads_held, held_grown}

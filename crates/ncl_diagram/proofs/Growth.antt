@@ -1,12 +1,5 @@
 -- What more nodes keep.
-use Rattle.std.proofs.Common.{◌≡◌, ℕ, zero, suc, ◌+◌, ◌-◌, ◌<◌, ◌≤◌, List, [], ◌∷◌, ◌++◌, Bool, true, false, if◌then◌else◌, nat_eq, length, map, slice_get, Some, Option, sym, ◌∙◌, ap, refl, arith, subst}
-use Rattle.ncl_gates.specs.declared.kind.Kind.{Kind}
-use Rattle.ncl_space.specs.Functions.{gate_table}
-use Rattle.ncl_space.specs.Beads.{is_bead, beads_of}
-use Rattle.ncl_diagram.specs.Nodes.{bit_or, level_of, child, branch, table_from, IsCanonical, Grown, bead_of}
-use Rattle.ncl_diagram.specs.Operands.{Above, There, gate_from}
-use Rattle.ncl_diagram.specs.Finding.{IsAnswer, IsBeadOf, AddsBeads}
-use Rattle.ncl_diagram.specs.declared.nodes.Node.{Node}
+use Rattle.ncl_diagram.proofs.Terms.{Above, AddsBeads, Bool, Grown, IsAnswer, IsBeadOf, IsCanonical, Kind, List, Node, Option, Some, There, [], ap, arith, bead_of, beads_of, bit_or, branch, child, false, gate_from, gate_table, if◌then◌else◌, is_bead, length, level_of, map, nat_eq, refl, slice_get, subst, suc, sym, table_from, true, zero, ℕ, ◌++◌, ◌+◌, ◌-◌, ◌<◌, ◌∙◌, ◌∷◌, ◌≡◌, ◌≤◌}
 
 pub grown_itself : (a : List Node) → Grown a a
 grown_itself a = record { longer = omega arith; kept = λ k x e. e }

@@ -1,20 +1,7 @@
 -- What is held as a set, and exactly where a table fits.
-use Rattle.std.proofs.Common.{◌≡◌, ℕ, zero, suc, ◌+◌, ◌≤◌, ◌||◌, ◌⊎◌, inl, inr, List, [], ◌∷◌, ◌++◌, Bool, true, false, cond, nat_le, length, slice_get, Some, sym, ◌∙◌, ap, refl, arith, subst}
-use Rattle.std.proofs.lemmas.Bool.Decides.{nat_tests}
-use Rattle.std.specs.List.{list_any, flat_map}
-use Rattle.std.specs.Ordering.{bool_cmp, eq_by_cmp}
-use Rattle.std.specs.Cmp.Lexicographic.{slice_cmp}
+use Rattle.ncl_diagram.proofs.Terms.{Beads, Bool, Held, HoldsOnly, HoldsWith, IsCanonical, IsTooMuch, List, Node, Some, SpaceData, [], ap, arith, bead_of, beads_from, beads_of, bool_cmp, cond, distinct_beads, distinct_count, eq_by_cmp, false, flat_map, held_of, inl, inr, is_bead, len-from_list, len_grows, length, list_any, nat_le, nat_tests, one_set, one_table, refl, same_from_both, slice_cmp, slice_get, subst, suc, sym, table_order, table_ties, true, zero, ℕ, ◌++◌, ◌+◌, ◌||◌, ◌∙◌, ◌∷◌, ◌≡◌, ◌≤◌, ◌⊎◌}
 use Rattle.std.specs.FinSet as set
-use Rattle.ncl_space.specs.Beads.{is_bead, Beads, beads_of, distinct_beads}
-use Rattle.ncl_diagram.specs.declared.nodes.Node.{Node}
-use Rattle.ncl_diagram.specs.Nodes.{IsCanonical, bead_of}
-use Rattle.ncl_diagram.specs.Holding.{Held, HoldsWith, HoldsOnly, IsTooMuch}
-use Rattle.ncl_space.specs.Space.{SpaceData}
 use Rattle.std.specs.Prelude.{None}
-use Rattle.ncl_base.proofs.Tests.{same_from_both}
-use Rattle.ncl_diagram.specs.Holding.{beads_from, held_of}
-use Rattle.ncl_space.proofs.BeadLaws.{distinct_count, len-from_list, one_set, one_table, table_order, table_ties}
-use Rattle.ncl_space.proofs.SpaceLaws.{len_grows}
 use Rattle.ncl_diagram.proofs.BeadTests.{either}
 use Rattle.ncl_diagram.proofs.Holding.{beads_differ}
 

@@ -1,25 +1,9 @@
 -- The beads of what is there are those of nodes, and each node has a bead of its own.
-use Rattle.std.proofs.Common.{◌≡◌, ℕ, zero, suc, ◌+◌, ◌-◌, ◌^◌, ◌<◌, ◌≤◌, ◌||◌, ◌⊎◌, inl, inr, List, [], ◌∷◌, ◌++◌, Bool, true, false, if◌then◌else◌, length, slice_get, Some, Option, sym, ◌∙◌, ap, refl, arith}
-use Rattle.std.specs.Prelude.{Result, Ok, Err, IfOk, IsErrOf}
-use Rattle.std.specs.Ordering.{bool_cmp, eq_by_cmp}
-use Rattle.std.specs.Cmp.Lexicographic.{slice_cmp}
-use Rattle.ncl_gates.specs.declared.kind.Kind.{Kind}
-use Rattle.ncl_space.specs.Beads.{is_bead, beads_of, is_same}
-use Rattle.ncl_space.specs.declared.space.Ref.{Ref}
-use Rattle.ncl_space.specs.declared.space.SpaceFault.{SpaceFault}
-use Rattle.ncl_space.specs.declared.space.SpaceFault.TheVariants.{Full}
-use Rattle.ncl_diagram.specs.Leaves.{Leaves}
-use Rattle.ncl_diagram.specs.declared.nodes.Node.{Node}
-use Rattle.ncl_diagram.specs.Nodes.{bit_or, level_of, branch, table_from, IsCanonical, Grown, bead_of}
-use Rattle.ncl_diagram.specs.Operands.{Above, There, gate_from}
-use Rattle.ncl_diagram.specs.Finding.{IsAnswer, AddsBeads, Lacks}
-use Rattle.ncl_diagram.specs.Holding.{Held, HoldsWith, HoldsOnly, IsTooMuch}
+use Rattle.ncl_diagram.proofs.Terms.{Above, AddsBeads, Bool, Err, Full, Grown, Held, HoldsOnly, HoldsWith, IfOk, IsAnswer, IsCanonical, IsErrOf, IsTooMuch, Kind, Lacks, Leaves, List, Node, Ok, Option, Ref, Result, Some, SpaceFault, There, [], ap, arith, bead_of, beads_of, bit_or, bool_cmp, branch, eq_by_cmp, false, gate_from, if◌then◌else◌, inl, inr, is_bead, is_same, is_same-self, length, level_of, one_table, refl, slice_cmp, slice_get, suc, sym, table_from, true, zero, ℕ, ◌++◌, ◌+◌, ◌-◌, ◌<◌, ◌^◌, ◌||◌, ◌∙◌, ◌∷◌, ◌≡◌, ◌≤◌, ◌⊎◌}
 use Rattle.ncl_diagram.proofs.Canonical.{get_within, Reads, Passes, look, next_low, next_high, there_low, there_high, one_place, length-table_from}
 use Rattle.ncl_diagram.proofs.Growth.{get_there, bead_grown, gate_grown}
 use Rattle.ncl_diagram.proofs.Step.{own_bead, beads_step, pow_one}
 use Rattle.ncl_diagram.proofs.Applying.{in_two, some_only}
-use Rattle.ncl_space.proofs.TableLaws.{is_same-self}
-use Rattle.ncl_space.proofs.BeadLaws.{one_table}
 use Rattle.ncl_diagram.proofs.BeadTests.{any_append, either}
 
 -- the bead of the table itself

@@ -1,19 +1,7 @@
 -- Walks over buckets, and keys that are put into them.
-use Rattle.std.proofs.Common.{◌≡◌, ◌≢◌, ℕ, zero, suc, ◌+◌, ◌-◌, ◌<◌, ◌≤◌, ◌⊎◌, inl, inr, List, [], ◌∷◌, ◌++◌, Bool, true, false, length, get_or, replicate, set, slice_get, Some, sym, ◌∙◌, ap, refl, arith, subst, length-append}
-use Rattle.std.specs.Prelude.{bit_and}
-use Rattle.std.specs.List.{IsDistinct, list_any}
-use Rattle.std.proofs.lemmas.Bool.{cases_lt}
-use Rattle.std.proofs.lemmas.List.{get_or-set_same}
-use Rattle.std.proofs.lemmas.Map.Keys.{IsDistinct-push}
-use Rattle.std.proofs.lemmas.Nat.{and_le_r}
-use Rattle.std.proofs.lemmas.Option.{slice_get-get_or}
-use Rattle.ncl_base.proofs.Places.{slice_get-end, push_cases}
-use Rattle.ncl_diagram.specs.declared.memo.Key.{Key}
-use Rattle.ncl_diagram.specs.declared.keys.Bucket.{Bucket}
-use Rattle.ncl_diagram.specs.declared.keys.End.{End}
-use Rattle.ncl_diagram.specs.declared.keys.End.TheVariants.{Found, Free}
-use Rattle.ncl_diagram.specs.Memo.{is_key}
-use Rattle.ncl_diagram.specs.Keys.{ArePut, EndsAt, IsFree, IsTable, KeepsTaken, Leads, here, past, hash_of, home_of, next}
+use Rattle.std.specs.List.{IsDistinct}
+use Rattle.ncl_diagram.proofs.Terms.{ArePut, Bool, Bucket, End, EndsAt, Found, Free, IsDistinct-push, IsFree, IsTable, KeepsTaken, Key, List, Some, [], and_le_r, ap, arith, bit_and, cases_lt, false, get_or, get_or-set_same, hash_of, home_of, inl, inr, is_key, length, length-append, list_any, next, past, push_cases, refl, replicate, set, slice_get, slice_get-end, slice_get-get_or, subst, suc, sym, true, zero, ℕ, ◌++◌, ◌+◌, ◌-◌, ◌<◌, ◌∙◌, ◌∷◌, ◌≡◌, ◌≢◌, ◌≤◌, ◌⊎◌}
+use Rattle.ncl_diagram.specs.Keys.{Leads, here}
 use Rattle.ncl_diagram.proofs.Applying.{get_set, length_set, some_only}
 use Rattle.ncl_diagram.proofs.Counting.{among_member, is_key_laws}
 use Rattle.ncl_diagram.proofs.MemoLaws.{short}

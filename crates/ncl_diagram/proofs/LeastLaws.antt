@@ -1,13 +1,5 @@
 -- The least word of a function, from its nodes.
-use Rattle.std.proofs.Common.{◌≡◌, ◌≢◌, ℕ, zero, suc, ◌+◌, ◌^◌, ◌<◌, ◌≤◌, ◌⊎◌, inl, inr, Bool, true, false, not, List, [], ◌∷◌, ◌++◌, length, Option, Some, None, if◌then◌else◌, append_assoc, append-nil, length-append, sym, ap, ◌∙◌, refl, arith}
-use Rattle.std.specs.List.{find}
-use Rattle.std.specs.Option.{option_or, option_map}
-use Rattle.ncl_base.proofs.Tests.{option_or-none}
-use Rattle.ncl_space.specs.Table.{words}
-use Rattle.ncl_space.specs.Functions.{at, constant_table, is_value, least}
-use Rattle.ncl_space.proofs.TableLaws.{at-low, at-high, at_table, find-same, find-words, table_of-same}
-use Rattle.ncl_diagram.specs.declared.nodes.Node.{Node}
-use Rattle.ncl_diagram.specs.Nodes.{branch, constant_place, level_of, table_from, IsCanonical}
+use Rattle.ncl_diagram.proofs.Terms.{Bool, IsCanonical, List, Node, None, Option, Some, [], ap, append-nil, append_assoc, arith, at, at-high, at-low, at_table, branch, constant_place, constant_table, false, find, find-same, find-words, if◌then◌else◌, inl, inr, is_value, least, length, length-append, level_of, not, option_map, option_or, option_or-none, refl, suc, sym, table_from, table_of-same, true, words, zero, ℕ, ◌++◌, ◌+◌, ◌<◌, ◌^◌, ◌∙◌, ◌∷◌, ◌≡◌, ◌≢◌, ◌≤◌, ◌⊎◌}
 use Rattle.ncl_diagram.proofs.Canonical.{Passes, Reads, bottom, length-table_from, look, next_high, next_low, one_place, there_high, there_low}
 use Rattle.ncl_diagram.proofs.Rails.{constant_there, level_of-constant, table_from-constant}
 use Rattle.ncl_diagram.proofs.Stops.{table_of_at}

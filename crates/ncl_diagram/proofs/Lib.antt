@@ -1,3 +1,4 @@
+mod Terms
 pub mod BeadTests
 pub mod Canonical
 pub mod Words

@@ -1,14 +1,5 @@
 -- The memo of one operation.
-use Rattle.std.proofs.Common.{◌≡◌, ℕ, zero, suc, ◌+◌, ◌<◌, List, [], ◌∷◌, ◌++◌, Bool, true, false, if◌then◌else◌, length, slice_get, Some, None, Option, ◌∙◌, ap, arith, ◌⊎◌, inl, inr, nat_eq, ◌&&◌}
-use Rattle.std.proofs.lemmas.Bool.{or_parts, and_parts}
-use Rattle.std.proofs.lemmas.Bool.Decides.{nat_tests}
-use Rattle.std.specs.List.{list_any}
-use Rattle.ncl_base.proofs.Places.{push_cases}
-use Rattle.ncl_space.specs.declared.space.Ref.{Ref}
-use Rattle.ncl_diagram.specs.declared.memo.Key.{Key}
-use Rattle.ncl_diagram.specs.declared.nodes.Node.{Node}
-use Rattle.ncl_diagram.specs.Nodes.{is_node, node_at}
-use Rattle.ncl_diagram.specs.Memo.{is_key}
+use Rattle.ncl_diagram.proofs.Terms.{Bool, Key, List, Node, None, Option, Ref, Some, [], and_parts, ap, arith, false, if◌then◌else◌, inl, inr, is_key, is_node, length, list_any, nat_eq, nat_tests, node_at, or_parts, push_cases, slice_get, suc, true, zero, ℕ, ◌&&◌, ◌++◌, ◌+◌, ◌<◌, ◌∙◌, ◌∷◌, ◌≡◌, ◌⊎◌}
 use Rattle.ncl_diagram.proofs.Canonical.{same_node}
 
 pub none_put : (b : Bool) (keys more : List Key) (key : Key) → b ≡ false → more ≡ (if b then keys ++ key ∷ [] else keys) → more ≡ keys

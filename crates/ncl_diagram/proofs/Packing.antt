@@ -1,14 +1,7 @@
 -- An answer is read from its two words, and what two words say has those words.
-use Rattle.std.proofs.Common.{◌≡◌, ℕ, ◌+◌, ◌*◌, ◌/◌, ◌%◌, ◌^◌, ◌<◌, true, [], ◌∷◌, Some, None, nat_lt, bit_or, sym, ap, ◌∙◌, refl, arith}
-use Rattle.std.specs.Option.{option_map}
-use Rattle.std.proofs.lemmas.Bool.{and_parts, ltb-true}
-use Rattle.std.proofs.lemmas.Nat.{or_shifted}
-use Rattle.ncl_gates.specs.declared.kind.Kind.{Kind}
-use Rattle.ncl_gates.specs.declared.kind.Kind.TheVariants.{Th12}
-use Rattle.ncl_space.specs.declared.space.Ref.{Ref}
-use Rattle.ncl_diagram.specs.declared.memo.Key.{Key}
-use Rattle.ncl_diagram.specs.Memo.{places}
-use Rattle.ncl_diagram.specs.Slot.{AreWords, are_below, below_answer, entry_at, first_of, first_word, gates, kind_at, kind_number, second_word}
+use Rattle.ncl_diagram.specs.Slot.{gates, kind_at, kind_number}
+use Rattle.ncl_diagram.proofs.Terms.{AreWords, Key, Kind, None, Ref, Some, Th12, [], and_parts, ap, are_below, arith, below_answer, entry_at, first_of, first_word, ltb-true, nat_lt, option_map, or_shifted, places, refl, second_word, sym, true, ℕ, ◌%◌, ◌*◌, ◌+◌, ◌/◌, ◌<◌, ◌^◌, ◌∙◌, ◌∷◌, ◌≡◌}
+use Rattle.std.proofs.Common.{bit_or}
 
 -- a gate is found by its number
 gate_found : (kind : Kind) → kind_at (kind_number kind) ≡ Some kind

@@ -1,13 +1,5 @@
 -- Operands filled up with the constant 0.
-use Rattle.std.proofs.Common.{◌≡◌, ℕ, zero, suc, subst, ◌+◌, ◌<◌, List, [], ◌∷◌, Bool, false, length, map, slice_index_or, sym, ◌∙◌, ap, refl, arith}
-use Rattle.std.specs.List.{list_any, list_all}
-use Rattle.ncl_gates.specs.declared.kind.Kind.{Kind}
-use Rattle.ncl_gates.specs.Gate.{Pin, set_of, products, place_of}
-use Rattle.ncl_space.specs.Functions.{at}
-use Rattle.ncl_diagram.specs.declared.nodes.Node.{Node}
-use Rattle.ncl_diagram.specs.Nodes.{table_from}
-use Rattle.ncl_diagram.specs.Operands.{gate_from, IsFilled, There}
-use Rattle.ncl_space.proofs.TableLaws.{table_of-same}
+use Rattle.ncl_diagram.proofs.Terms.{Bool, IsFilled, Kind, List, Node, Pin, There, [], ap, arith, at, false, gate_from, length, list_all, list_any, map, place_of, products, refl, set_of, slice_index_or, subst, suc, sym, table_from, table_of-same, zero, ℕ, ◌+◌, ◌<◌, ◌∙◌, ◌∷◌, ◌≡◌}
 use Rattle.ncl_diagram.proofs.Stops.{at_zero}
 
 set_of-same : (kind : Kind) (xs ys : List Bool) → ((k : ℕ) → slice_index_or xs k false ≡ slice_index_or ys k false) → set_of kind xs ≡ set_of kind ys

@@ -1,17 +1,5 @@
 -- The node of a rail, and the tables of constants.
-use Rattle.std.proofs.Common.{◌≡◌, ◌≢◌, ℕ, zero, suc, ◌+◌, ◌-◌, ◌^◌, ◌<◌, ◌≤◌, Bool, true, false, not, List, ◌++◌, length, slice_get, slice_index_or, Some, sym, subst, ap, ◌∙◌, refl, arith}
-use Rattle.std.specs.Prelude.{Result, Ok, Err, IfOk, OnErr, IsErrOf}
-use Rattle.ncl_space.specs.declared.space.Ref.{Ref}
-use Rattle.ncl_space.specs.declared.space.SpaceFault.{SpaceFault}
-use Rattle.ncl_space.specs.declared.space.SpaceFault.TheVariants.{Full}
-use Rattle.ncl_diagram.specs.Leaves.{Leaves}
-use Rattle.ncl_space.specs.Beads.{beads_of, is_bead}
-use Rattle.ncl_space.specs.Functions.{constant_table, is_value, rail_table}
-use Rattle.ncl_space.proofs.TableLaws.{length-table_of, table_of-halves}
-use Rattle.ncl_diagram.specs.declared.nodes.Node.{Node}
-use Rattle.ncl_diagram.specs.Nodes.{bead_of, branch, constant_place, level_of, table_from, IsCanonical}
-use Rattle.ncl_diagram.specs.Finding.{HasNoRoom, Joins, Leads}
-use Rattle.ncl_diagram.specs.Holding.{HoldsWith, HoldsOnly, IsTooMuch}
+use Rattle.ncl_diagram.proofs.Terms.{Bool, Err, Full, HasNoRoom, HoldsOnly, HoldsWith, IfOk, IsCanonical, IsErrOf, IsTooMuch, Joins, Leads, Leaves, List, Node, Ok, OnErr, Ref, Result, Some, SpaceFault, ap, arith, bead_of, beads_of, branch, constant_place, constant_table, false, is_bead, is_value, length, length-table_of, level_of, not, rail_table, refl, slice_get, slice_index_or, subst, suc, sym, table_from, table_of-halves, true, zero, ℕ, ◌++◌, ◌+◌, ◌-◌, ◌<◌, ◌^◌, ◌∙◌, ◌≡◌, ◌≢◌, ◌≤◌}
 use Rattle.ncl_diagram.proofs.Canonical.{get_within, length-table_from, one_place, same_back, same_front}
 use Rattle.ncl_diagram.proofs.Step.{bead_low, bead_self, node_high, node_low, pow_one, table_twice}
 use Rattle.ncl_diagram.proofs.Joining.{leads_node}

@@ -1,14 +1,5 @@
 -- The keys that an operation meets are reached from its operands, and each is met once.
-use Rattle.std.proofs.Common.{◌≡◌, ℕ, zero, suc, ◌+◌, ◌<◌, ◌⊎◌, inl, inr, List, [], ◌∷◌, ◌++◌, Bool, true, false, length, map, set, slice_get, slice_index_or, Some, None, Option, sym, ◌∙◌, ap, arith, subst}
-use Rattle.ncl_base.proofs.Places.{push_cases}
-use Rattle.ncl_gates.specs.declared.kind.Kind.{Kind}
-use Rattle.ncl_space.specs.declared.space.Ref.{Ref}
-use Rattle.ncl_diagram.specs.declared.memo.Key.{Key}
-use Rattle.ncl_diagram.specs.declared.nodes.Node.{Node}
-use Rattle.ncl_diagram.specs.Nodes.{branch, IsCanonical, Grown}
-use Rattle.ncl_diagram.specs.Operands.{There}
-use Rattle.ncl_diagram.specs.Memo.{places, size_of, MayAdd, IsKeyPut, AreLarger, Settles}
-use Rattle.ncl_diagram.specs.Steps.{Reaches, here, along, ReachesKey, AddsKeys}
+use Rattle.ncl_diagram.proofs.Terms.{AddsKeys, AreLarger, Bool, Grown, IsCanonical, IsKeyPut, Key, Kind, List, MayAdd, Node, None, Option, Reaches, ReachesKey, Ref, Settles, Some, There, [], along, ap, arith, branch, false, here, inl, inr, length, map, places, push_cases, set, size_of, slice_get, slice_index_or, subst, suc, sym, true, zero, ℕ, ◌++◌, ◌+◌, ◌<◌, ◌∙◌, ◌∷◌, ◌≡◌, ◌⊎◌}
 use Rattle.ncl_diagram.proofs.Growth.{branch_grown, branch_before, grown_along, there_grown}
 use Rattle.ncl_diagram.proofs.MemoLaws.{short}
 use Rattle.ncl_diagram.proofs.Applying.{get_set, branches_grown, Lower, Higher}

@@ -1,25 +1,5 @@
 -- What a call of an operation leaves, from what its two calls left.
-use Rattle.std.proofs.Common.{◌≡◌, ℕ, ◌+◌, ◌<◌, ◌≤◌, inl, inr, List, [], ◌∷◌, ◌++◌, true, false, Option, Some, None, length, map, set, slice_get, sym, ◌∙◌, ap, subst, arith}
-use Rattle.std.specs.Prelude.{Result, Ok, Err, IfOk, IsErrOf}
-use Rattle.ncl_base.proofs.Places.{slice_get-end, slice_get-kept}
-use Rattle.ncl_gates.specs.declared.kind.Kind.{Kind}
-use Rattle.ncl_space.specs.declared.space.Ref.{Ref}
-use Rattle.ncl_space.specs.declared.space.SpaceFault.{SpaceFault}
-use Rattle.ncl_space.specs.declared.space.SpaceFault.TheVariants.{Full}
-use Rattle.ncl_diagram.specs.declared.answers.Answers.{Answers}
-use Rattle.ncl_diagram.specs.declared.memo.Key.{Key}
-use Rattle.ncl_diagram.specs.declared.memo.Memo.{Memo}
-use Rattle.ncl_diagram.specs.declared.nodes.Node.{Node}
-use Rattle.ncl_diagram.specs.declared.operation.Engine.{Engine}
-use Rattle.ncl_diagram.specs.declared.operation.Operation.{Operation}
-use Rattle.ncl_diagram.specs.Finding.{HasNoRoom, IsAnswer, Joins, Leads}
-use Rattle.ncl_diagram.specs.Kept.{HasMore, HasSlots, IsAnswerKept, is_below}
-use Rattle.ncl_diagram.specs.Memo.{AreAnswers, IsKeyPut, KeepsKeys, MayAdd, Settles, places, size_of}
-use Rattle.ncl_diagram.specs.Nodes.{Grown, IsCanonical, branch, level_of}
-use Rattle.ncl_diagram.specs.Leaves.{Leaves}
-use Rattle.ncl_diagram.specs.Operands.{Least, There, gate_from}
-use Rattle.ncl_diagram.specs.Running.{Finds, FindsFull, IsSound, MayRun, Runs}
-use Rattle.ncl_diagram.specs.Steps.{AddsKeys}
+use Rattle.ncl_diagram.proofs.Terms.{AddsKeys, Answers, AreAnswers, Engine, Err, Finds, FindsFull, Full, Grown, HasMore, HasNoRoom, HasSlots, IfOk, IsAnswer, IsAnswerKept, IsCanonical, IsErrOf, IsKeyPut, IsSound, Joins, KeepsKeys, Key, Kind, Leads, Least, Leaves, List, MayAdd, MayRun, Memo, Node, None, Ok, Operation, Option, Ref, Result, Runs, Settles, Some, SpaceFault, There, [], ap, arith, branch, false, gate_from, inl, inr, is_below, length, level_of, map, places, set, size_of, slice_get, slice_get-end, slice_get-kept, subst, sym, true, ℕ, ◌++◌, ◌+◌, ◌<◌, ◌∙◌, ◌∷◌, ◌≡◌, ◌≤◌}
 use Rattle.ncl_diagram.proofs.Applying.{Higher, Lower, adds_higher, adds_joined, adds_lower, answer_joined, high_fits, higher, higher_there, lacks_higher, lacks_joined, lacks_lower, low_fits, lower, memo_grown, memo_noted, memo_pushed}
 use Rattle.ncl_diagram.proofs.Growth.{grown_along, grown_itself, there_grown}
 use Rattle.ncl_diagram.proofs.Holding.{leaves_applied}

@@ -1,15 +1,5 @@
 -- One step of the operation: from the answers at the operands' branches to the answer.
-use Rattle.std.proofs.Common.{◌≡◌, ◌≢◌, ℕ, zero, suc, ◌+◌, ◌-◌, ◌^◌, ◌<◌, ◌≤◌, ◌⊎◌, inl, inr, List, [], ◌∷◌, ◌++◌, Bool, true, false, ◌||◌, if◌then◌else◌, nat_eq, length, map, slice_get, Some, sym, ◌∙◌, ap, refl, arith, subst}
-use Rattle.ncl_space.proofs.TableLaws.{high_half-append, low_half-append, pow_suc}
-use Rattle.ncl_space.proofs.BeadLaws.{table_ties}
-use Rattle.std.proofs.lemmas.Bool.Decides.{nat_tests}
-use Rattle.ncl_gates.specs.declared.kind.Kind.{Kind}
-use Rattle.ncl_space.specs.Beads.{is_bead, beads_of, is_same}
-use Rattle.ncl_space.proofs.BoundLaws.{is_same_only}
-use Rattle.ncl_diagram.specs.Nodes.{bit_or, level_of, child, branch, table_from, IsCanonical, bead_of}
-use Rattle.ncl_diagram.specs.Operands.{Above, There, Least, gate_from}
-use Rattle.ncl_diagram.specs.Finding.{IsAnswer, IsBeadOf, Lacks, Leads}
-use Rattle.ncl_diagram.specs.declared.nodes.Node.{Node}
+use Rattle.ncl_diagram.proofs.Terms.{Above, Bool, IsAnswer, IsBeadOf, IsCanonical, Kind, Lacks, Leads, Least, List, Node, Some, There, [], ap, arith, bead_of, beads_of, bit_or, branch, child, false, gate_from, high_half-append, if◌then◌else◌, inl, inr, is_bead, is_same, is_same_only, length, level_of, low_half-append, map, nat_eq, nat_tests, pow_suc, refl, slice_get, subst, suc, sym, table_from, table_ties, true, zero, ℕ, ◌++◌, ◌+◌, ◌-◌, ◌<◌, ◌^◌, ◌||◌, ◌∙◌, ◌∷◌, ◌≡◌, ◌≢◌, ◌≤◌, ◌⊎◌}
 use Rattle.ncl_diagram.proofs.Canonical.{get_within, Reads, Passes, look, next_low, next_high, one_place, same_front, same_back, same_node, length-table_from}
 use Rattle.ncl_diagram.proofs.Growth.{branch_before}
 use Rattle.ncl_diagram.proofs.BeadTests.{any_left, any_right}

@@ -1,20 +1,6 @@
 -- The answers that need no reading.
-use Rattle.std.proofs.Common.{if◌then◌else◌, ◌≡◌, ℕ, zero, suc, ◌+◌, ◌<◌, ◌≤◌, ◌||◌, inl, inr, List, [], ◌∷◌, ◌++◌, Bool, true, false, not, nat_eq, length, map, slice_index_or, sym, ◌∙◌, ap, refl, arith, subst}
-use Rattle.std.proofs.lemmas.Bool.{and_parts}
-use Rattle.std.proofs.lemmas.Bool.Decides.{nat_tests}
-use Rattle.std.specs.List.{list_any, list_all}
-use Rattle.ncl_gates.specs.declared.kind.Kind.{Kind}
-use Rattle.ncl_gates.specs.Gate.{set_of}
-use Rattle.ncl_gates.specs.GateLaw.{IsBelow}
-use Rattle.ncl_gates.proofs.GateLaws.{set_of-monotone}
-use Rattle.ncl_space.specs.Table.{words, table_of}
-use Rattle.ncl_space.specs.Functions.{at}
-use Rattle.ncl_diagram.specs.declared.nodes.Node.{Node}
-use Rattle.ncl_diagram.specs.Nodes.{level_of, branch, table_from}
-use Rattle.ncl_diagram.specs.Operands.{Above, There, IsStop, only_one}
-use Rattle.ncl_diagram.specs.Finding.{IsAnswer}
+use Rattle.ncl_diagram.proofs.Terms.{Above, Bool, IsAnswer, IsBelow, IsStop, Kind, List, Node, There, [], and_parts, ap, arith, at, branch, false, if◌then◌else◌, inl, inr, length, level_of, list_all, list_any, map, nat_eq, nat_tests, not, only_one, refl, set_of, set_of-monotone, slice_index_or, subst, suc, sym, table_from, table_of, table_of-halves, table_of-same, true, words, zero, ℕ, ◌++◌, ◌+◌, ◌<◌, ◌||◌, ◌∙◌, ◌∷◌, ◌≡◌, ◌≤◌}
 use Rattle.ncl_diagram.proofs.Words.{at_branch}
-use Rattle.ncl_space.proofs.TableLaws.{table_of-halves, table_of-same}
 
 -- a table is that of its values
 pub table_of_at : (nodes : List Node) (m level p : ℕ) → table_of (words m) (λ w. at (table_from nodes m level p) w) ≡ table_from nodes m level p

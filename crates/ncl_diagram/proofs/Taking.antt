@@ -1,8 +1,5 @@
 -- The first of some nodes.
-use Rattle.std.proofs.Common.{◌≡◌, ℕ, zero, suc, ◌+◌, ◌<◌, ◌≤◌, List, [], ◌∷◌, length, take, slice_get, Some, refl, arith, subst}
-use Rattle.std.proofs.lemmas.List.{length-take-le}
-use Rattle.ncl_diagram.specs.declared.nodes.Node.{Node}
-use Rattle.ncl_diagram.specs.Nodes.{IsCanonical, Grown}
+use Rattle.ncl_diagram.proofs.Terms.{Grown, IsCanonical, List, Node, Some, [], arith, length, length-take-le, refl, slice_get, subst, suc, take, zero, ℕ, ◌+◌, ◌<◌, ◌∷◌, ◌≡◌, ◌≤◌}
 use Rattle.ncl_diagram.proofs.Canonical.{get_within}
 use Rattle.ncl_diagram.proofs.Growth.{level_grown}
 

@@ -1,12 +1,5 @@
 -- Tables by halves.
-use Rattle.std.proofs.Common.{◌≡◌, ℕ, suc, ◌+◌, ◌^◌, List, [], ◌∷◌, ◌++◌, Bool, true, false, length, map, sym, ◌∙◌, ap, refl}
-use Rattle.ncl_gates.specs.declared.kind.Kind.{Kind}
-use Rattle.ncl_gates.specs.Gate.{set_of}
-use Rattle.ncl_space.specs.Functions.{at}
-use Rattle.ncl_space.proofs.TableLaws.{at-low, at-high, length-table_of, table_of-halves, table_of-same}
-use Rattle.ncl_diagram.specs.Nodes.{table_from, branch}
-use Rattle.ncl_diagram.specs.Operands.{gate_from}
-use Rattle.ncl_diagram.specs.declared.nodes.Node.{Node}
+use Rattle.ncl_diagram.proofs.Terms.{Bool, Kind, List, Node, [], ap, at, at-high, at-low, branch, false, gate_from, length, length-table_of, map, refl, set_of, suc, sym, table_from, table_of-halves, table_of-same, true, ℕ, ◌++◌, ◌+◌, ◌^◌, ◌∙◌, ◌∷◌, ◌≡◌}
 use Rattle.ncl_diagram.proofs.Canonical.{length-table_from}
 
 long : (nodes : List Node) (m level p : ℕ) (w : List Bool) → length w ≡ m → length (table_from nodes m level p) ≡ 2 ^ length w

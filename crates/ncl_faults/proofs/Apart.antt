@@ -1,12 +1,5 @@
 -- The nets of a stage differ: a rail is no output of a cell, and two cells have two outputs.
-use Rattle.std.proofs.Common.{◌≡◌, ◌≢◌, ℕ, Bool, true, false, List, [], ◌∷◌, ◌++◌, map, inl, inr, refl, sym, subst}
-use Rattle.std.specs.Prelude.{AllPairs, nat_eq}
-use Rattle.std.proofs.lemmas.Bool.{or_cases, both_ways, eqb-true}
-use Rattle.ncl_shape.specs.declared.rails.Rails.{Rails}
-use Rattle.ncl_shape.specs.Nets.{among}
-use Rattle.ncl_shape.specs.Stage.{rail_nets, rail_of, named_rails}
-use Rattle.ncl_base.proofs.Members.{Member, here, there, member_cases, Member-append_right, Member-map}
-use Rattle.ncl_base.proofs.Lists.{pairs-head, pairs-tail}
+use Rattle.ncl_faults.proofs.Terms.{AllPairs, Bool, List, Member, Member-append_right, Member-map, Rails, [], among, both_ways, eqb-true, false, here, inl, inr, map, member_cases, named_rails, nat_eq, or_cases, pairs-head, pairs-tail, rail_nets, rail_of, refl, subst, sym, there, true, ℕ, ◌++◌, ◌∷◌, ◌≡◌, ◌≢◌}
 
 -- where all of two lists joined differ, nothing stands in both
 pub parts-differ : {X : Type 0} (x : X) {xs : List X} (ys : List X) → AllPairs (λ a b. a ≢ b) (xs ++ ys) → Member x xs → Member x ys → ⊥

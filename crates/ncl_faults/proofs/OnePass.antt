@@ -1,22 +1,5 @@
 -- Evaluating the cells of a stage once, in their order, gives its values.
-use Rattle.std.proofs.Common.{◌≡◌, ℕ, ◌+◌, Bool, true, false, not, ◌||◌, ◌&&◌, cond, List, [], ◌∷◌, ◌++◌, map, inl, inr, refl, sym, ap, ◌∙◌, subst, append_assoc}
-use Rattle.std.proofs.Math.Path.{fun_ext}
-use Rattle.std.specs.Prelude.{All, Contains, nat_eq}
-use Rattle.std.proofs.lemmas.Bool.{cases_eq, and_parts, and_from, or_left, or_right, eq-eqb, ne_eqb, eqb-true}
-use Rattle.std.proofs.lemmas.List.{append-nil, map-append}
-use Rattle.std.proofs.lemmas.List.Folds.{list_any-append}
-use Rattle.std.proofs.lemmas.List.Elements.{All-head, All-tail}
-use Rattle.ncl_gates.specs.Gate.{set_of}
-use Rattle.ncl_netlist.specs.declared.ids.NetId.{NetId}
-use Rattle.ncl_shape.specs.declared.stage.StageCell.{StageCell}
-use Rattle.ncl_shape.specs.Nets.{Nets, among, with_net}
-use Rattle.ncl_shape.specs.Stage.{StageData, IsStage, rail_nets, nets_of, out_of}
-use Rattle.ncl_shape.specs.Closure.{pin_values}
-use Rattle.ncl_base.proofs.Members.{Member, here, list_any-from_member, member_from_list_any, Member-from_Contains, Member-append_right}
-use Rattle.ncl_base.proofs.Tests.{same_from_both}
-use Rattle.ncl_faults.specs.declared.variant.Variant.{Variant}
-use Rattle.ncl_faults.specs.Values.{kept_low, rises, start, val}
-use Rattle.ncl_faults.specs.Pass.{pass}
+use Rattle.ncl_faults.proofs.Terms.{All, All-head, All-tail, Bool, Contains, IsStage, List, Member, Member-append_right, Member-from_Contains, NetId, Nets, StageCell, StageData, Variant, [], among, and_from, and_parts, ap, append-nil, append_assoc, cases_eq, cond, eq-eqb, eqb-true, false, fun_ext, here, inl, inr, kept_low, list_any-append, list_any-from_member, map, map-append, member_from_list_any, nat_eq, ne_eqb, nets_of, not, or_left, or_right, out_of, pass, pin_values, rail_nets, refl, rises, same_from_both, set_of, start, subst, sym, true, val, with_net, ℕ, ◌&&◌, ◌++◌, ◌||◌, ◌∙◌, ◌∷◌, ◌≡◌}
 use Rattle.ncl_faults.proofs.ValueLaws.{val-keeps, val-rail, val-output, val-within, start-within}
 
 -- the values where some cells have been evaluated: those of the rails and of the outputs of these cells,

@@ -1,16 +1,6 @@
 -- A test for stages that computes: where it passes, the data are a stage.
-use Rattle.std.proofs.Common.{◌≡◌, ◌≢◌, ℕ, zero, suc, ◌<◌, Bool, true, not, ◌&&◌, List, [], ◌∷◌, ◌++◌, length, map, get_or, refl, sym, subst, arith, leb}
-use Rattle.std.specs.Prelude.{AllPairs, Contains, nat_eq}
-use Rattle.std.specs.List.{list_all}
-use Rattle.std.proofs.lemmas.Bool.{and_parts, leb-true, eqb-true, eq-eqb, both_ways, not-true}
-use Rattle.std.proofs.lemmas.List.{append_assoc, append-nil, length-map}
-use Rattle.ncl_gates.specs.Gate.{arity_of}
-use Rattle.ncl_netlist.specs.declared.ids.NetId.{NetId}
-use Rattle.ncl_shape.specs.declared.stage.StageCell.{StageCell}
-use Rattle.ncl_shape.specs.Nets.{among}
-use Rattle.ncl_shape.specs.Stage.{StageData, IsStage, Reads, nets_of, out_of, rail_nets}
-use Rattle.ncl_base.proofs.Members.{Member, Contains-from_Member, Member-get_or, All-from_members, list_any-from_member, member_from_list_any}
-use Rattle.ncl_base.proofs.Tests.{list_all-member}
+use Rattle.ncl_faults.proofs.Terms.{All-from_members, AllPairs, Bool, Contains, Contains-from_Member, IsStage, List, Member, Member-get_or, NetId, Reads, StageCell, StageData, [], among, and_parts, append-nil, arith, arity_of, both_ways, eq-eqb, eqb-true, get_or, leb, leb-true, length, length-map, list_all, list_all-member, list_any-from_member, map, member_from_list_any, nat_eq, nets_of, not, not-true, out_of, rail_nets, refl, subst, suc, sym, true, zero, ℕ, ◌&&◌, ◌++◌, ◌<◌, ◌∷◌, ◌≡◌, ◌≢◌}
+use Rattle.std.proofs.lemmas.List.{append_assoc}
 
 -- no two of the keys are equal
 abbrev are_distinct : List ℕ → Bool

@@ -1,18 +1,6 @@
 -- The laws of the values of a stage: what is high at the rails, at the outputs of the cells and elsewhere, and
 -- that no variant raises more than Base.
-use Rattle.std.proofs.Common.{◌≡◌, ℕ, Bool, true, false, not, List, length, map, ◌⊎◌, inl, inr, refl, subst}
-use Rattle.std.specs.Prelude.{All, Contains}
-use Rattle.std.proofs.lemmas.Bool.{and_parts, and_from, false_from_ne_true}
-use Rattle.ncl_shape.specs.declared.stage.StageCell.{StageCell}
-use Rattle.ncl_shape.specs.Nets.{Nets, IsBelow, among}
-use Rattle.ncl_shape.specs.Stage.{StageData, IsStage, named_rails, rail_nets, nets_of, out_of}
-use Rattle.ncl_base.proofs.Members.{Member, All-from_members, Contains-from_Member, Member-map, Member-append_left, Member-append_right}
-use Rattle.ncl_base.proofs.Tests.{same_from_both}
-use Rattle.ncl_shape.proofs.Rounds.{IsMonotone, rounds-below, rounds-keep, rounds-support, rounds-settled}
-use Rattle.ncl_shape.proofs.ClosureLaws.{set_of-grows, below_at}
-use Rattle.ncl_faults.specs.declared.variant.Variant.{Variant}
-use Rattle.ncl_faults.specs.declared.variant.Variant.TheVariants.{Base}
-use Rattle.ncl_faults.specs.Values.{holds, kept_low, rises, start, val}
+use Rattle.ncl_faults.proofs.Terms.{All, All-from_members, Base, Bool, Contains, Contains-from_Member, IsBelow, IsMonotone, IsStage, List, Member, Member-append_left, Member-append_right, Member-map, Nets, StageCell, StageData, Variant, among, and_from, and_parts, below_at, false, false_from_ne_true, holds, inl, inr, kept_low, length, map, named_rails, nets_of, not, out_of, rail_nets, refl, rises, rounds-below, rounds-keep, rounds-settled, rounds-support, same_from_both, set_of-grows, start, subst, true, val, ℕ, ◌≡◌, ◌⊎◌}
 use Rattle.ncl_faults.proofs.Apart.{parts-differ, right-differ, same_from_value, named-within}
 
 -- a set function holds where more is high

@@ -1,15 +1,5 @@
 -- The places of nets: how they are numbered, and what stands at them.
-use Rattle.std.proofs.Common.{◌≡◌, ◌≢◌, ℕ, ◌+◌, ◌<◌, cond, List, [], ◌∷◌, ◌++◌, length, map, take, drop, get_or, zero, suc, sym, ◌∙◌, ap, subst, refl, arith, append_assoc}
-use Rattle.std.specs.Prelude.{All, AllPairs, Contains, nat_eq}
-use Rattle.std.proofs.lemmas.Bool.{false_from_ne_true, eqb-true}
-use Rattle.std.proofs.lemmas.List.{take-append-drop, take_more, drop_more, map-append}
-use Rattle.std.proofs.lemmas.List.Elements.{All-contains}
-use Rattle.indexmap.specs.IndexSet.{insert_key}
-use Rattle.ncl_shape.specs.declared.rails.Rails.{Rails}
-use Rattle.ncl_shape.specs.declared.stage.StageCell.{StageCell}
-use Rattle.ncl_shape.specs.Stage.{StageData, IsStage, rail_nets, nets_of, out_of}
-use Rattle.ncl_netlist.specs.declared.ids.NetId.{NetId}
-use Rattle.ncl_base.proofs.Members.{Member, here, there, Member-append_left, Member-from_Contains, Contains-from_Member, member_from_list_any}
+use Rattle.ncl_faults.proofs.Terms.{All, All-contains, AllPairs, Contains, Contains-from_Member, IsStage, List, Member, Member-append_left, Member-from_Contains, NetId, Rails, StageCell, StageData, [], ap, append_assoc, arith, cond, drop, drop_more, eqb-true, false_from_ne_true, get_or, here, insert_key, length, map, map-append, member_from_list_any, nat_eq, nets_of, out_of, rail_nets, refl, subst, suc, sym, take, take-append-drop, take_more, there, zero, ℕ, ◌++◌, ◌+◌, ◌<◌, ◌∙◌, ◌∷◌, ◌≡◌, ◌≢◌}
 use Rattle.ncl_faults.proofs.Apart.{parts-differ}
 
 abbrev pub AllDiffer : List ℕ → Type 0

@@ -1,14 +1,5 @@
 -- A fault of the first stage makes a run go wrong, since each word of it is an input.
-use Rattle.std.proofs.Common.{◌≡◌, true, Bool, List, [], ◌∷◌, length, Some, arith}
-use Rattle.std.specs.Prelude.{slice_get}
-use Rattle.ncl_shape.specs.Stage.{StageData}
-use Rattle.ncl_shape.specs.Pipeline.{PipelineData}
-use Rattle.ncl_shape.specs.Shape.{Shape}
-use Rattle.ncl_faults.specs.Faults.{StageFault, shows}
-use Rattle.ncl_machine.specs.DelayInsensitive.{IsDelayInsensitive}
-use Rattle.ncl_hazard.specs.Trying.{HasNoDataBank}
-use Rattle.ncl_refusal.specs.Reached.{GoesWrong}
-use Rattle.ncl_refusal.proofs.Converse.{refused-wrong, wrong-insensitive}
+use Rattle.ncl_faulty.proofs.Terms.{Bool, GoesWrong, HasNoDataBank, IsDelayInsensitive, List, PipelineData, Shape, Some, StageData, StageFault, [], arith, length, refused-wrong, shows, slice_get, true, wrong-insensitive, ◌∷◌, ◌≡◌}
 
 module _ (p : PipelineData) (shape : Shape p.netlist p) (null : HasNoDataBank p) (s : StageData) (at : slice_get p.stages 0 ≡ Some s)
     (word : List Bool) (wide : length word ≡ length p.inputs) (fault : StageFault) (shown : shows s word fault ≡ true) where

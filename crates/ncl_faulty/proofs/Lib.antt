@@ -1,3 +1,4 @@
+mod Terms
 pub mod Shapes
 pub mod FirstStages
 pub mod Twins

@@ -1,19 +1,5 @@
 -- The examples are put together of banks and stages, and so they have the shape of a pipeline.
-use Rattle.std.proofs.Common.{◌≡◌, ℕ, true, List, [], ◌∷◌, refl, arith}
-use Rattle.std.specs.Prelude.{codes}
-use Rattle.std.proofs.lemmas.List.Elements.{All-from_recursion}
-use Rattle.ncl_gates.specs.declared.kind.Kind.{Kind}
-use Rattle.ncl_gates.specs.declared.kind.Kind.TheVariants.{Th12, Th22}
-use Rattle.ncl_gates.specs.declared.cell_kind.CellKind.TheVariants.{Gate}
-use Rattle.ncl_netlist.specs.Netlist.{IsNetlist}
-use Rattle.ncl_shape.specs.Shape.{Shape}
-use Rattle.ncl_shape.specs.Examples.{bit, rails, net_id, cell}
-use Rattle.ncl_assembly.specs.Assembled.{HasGate, IsWiredBank, IsWiredStage, WiredBank, WiredBit}
-use Rattle.ncl_assembly.proofs.AssembledShape.{Shape-from_assembled}
-use Rattle.ncl_assembly.proofs.WrittenBanks.{wired, wired_bit, bank_of_one, one_wired, bank_of_two, two_wired, numbered_one, numbered_two, one_bit_shape}
-use Rattle.ncl_faults.proofs.StageTest.{is_stage, IsStage-from_test}
-use Rattle.ncl_insensitivity.proofs.WrittenNetlists.{netlist_from_tests}
-use Rattle.ncl_faulty.specs.Examples.{gate_netlist, gate_stage, with_gate, with_both_rails, with_dead_rail, with_orphan, eager_netlist, eager_stage, with_eager_and, twins_netlist, doubling, differing, twins}
+use Rattle.ncl_faulty.proofs.Terms.{All-from_recursion, Gate, HasGate, IsNetlist, IsStage-from_test, IsWiredBank, IsWiredStage, Kind, List, Shape, Shape-from_assembled, Th12, Th22, WiredBank, WiredBit, [], arith, bank_of_one, bank_of_two, bit, cell, codes, differing, doubling, eager_netlist, eager_stage, gate_netlist, gate_stage, is_stage, net_id, netlist_from_tests, numbered_one, numbered_two, one_bit_shape, one_wired, rails, refl, true, twins, twins_netlist, two_wired, wired, wired_bit, with_both_rails, with_dead_rail, with_eager_and, with_gate, with_orphan, ℕ, ◌∷◌, ◌≡◌}
 
 -- ---- two banks of one bit with a gate
 

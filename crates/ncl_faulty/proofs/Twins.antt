@@ -1,14 +1,5 @@
 -- The pipeline whose fault no input brings: at the words that inputs bring no stage shows a fault.
-use Rattle.std.proofs.Common.{◌≡◌, ℕ, zero, suc, Bool, true, false, List, [], ◌∷◌, Some, refl, subst, arith}
-use Rattle.std.specs.Prelude.{slice_get}
-use Rattle.std.proofs.lemmas.Option.{same_Some}
-use Rattle.ncl_shape.specs.Stage.{StageData}
-use Rattle.ncl_faults.specs.Faults.{shows}
-use Rattle.ncl_machine.specs.SoundAt.{IsSoundAt}
-use Rattle.ncl_hazard.specs.Why.{brings}
-use Rattle.ncl_insensitivity.proofs.ByComputation.{condition_of-other, other_faults}
-use Rattle.ncl_refusal.specs.Reached.{IsSoundWhereReached}
-use Rattle.ncl_faulty.specs.Examples.{doubling, differing, twins}
+use Rattle.ncl_faulty.proofs.Terms.{Bool, IsSoundAt, IsSoundWhereReached, List, Some, StageData, [], arith, brings, condition_of-other, differing, doubling, false, other_faults, refl, same_Some, shows, slice_get, subst, suc, true, twins, zero, ℕ, ◌∷◌, ◌≡◌}
 
 -- the first stage at a bit, and the second at two equal bits
 doubling_sound : (b : Bool) → IsSoundAt doubling (b ∷ [])

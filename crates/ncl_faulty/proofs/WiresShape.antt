@@ -1,14 +1,5 @@
 -- Two banks joined by wires are put together of banks and a stage, and so they have the shape of a linear pipeline.
-use Rattle.std.proofs.Common.{[], ◌∷◌, refl, arith}
-use Rattle.std.specs.Prelude.{codes}
-use Rattle.std.proofs.lemmas.List.Elements.{All-from_recursion}
-use Rattle.ncl_netlist.specs.Netlist.{IsNetlist}
-use Rattle.ncl_shape.specs.Shape.{Shape}
-use Rattle.ncl_shape.specs.Examples.{wires, wires_pipeline}
-use Rattle.ncl_assembly.specs.Assembled.{HasGate}
-use Rattle.ncl_assembly.proofs.WrittenBanks.{one_bit_stage, one_bit_shape}
-use Rattle.ncl_faults.proofs.StageTest.{IsStage-from_test}
-use Rattle.ncl_insensitivity.proofs.WrittenNetlists.{netlist_from_tests}
+use Rattle.ncl_faulty.proofs.Terms.{All-from_recursion, HasGate, IsNetlist, IsStage-from_test, Shape, [], arith, codes, netlist_from_tests, one_bit_shape, one_bit_stage, refl, wires, wires_pipeline, ◌∷◌}
 
 pub wires_netlist : IsNetlist wires
 wires_netlist = netlist_from_tests wires (record { driven = refl; fits = refl; ports_first = refl; in_order = refl; net_names = refl; cell_names = refl; few_cells = omega arith; few_nets = omega arith; few_ports = omega arith })

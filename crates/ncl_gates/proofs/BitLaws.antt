@@ -1,11 +1,6 @@
 -- Bits of numbers made by `&` and `|`, and bits that a mask asks.
-use Rattle.std.proofs.Common.{◌≡◌, ℕ, zero, suc, ◌^◌, ◌*◌, ◌<◌, Bool, true, false, ◌&&◌, ◌||◌, min, max, nat_eq, ap, ◌∙◌, refl, sym, arith}
-use Rattle.std.specs.Prelude.{bit_and, bit_or}
-use Rattle.std.specs.Int.{bit_at}
-use Rattle.std.proofs.lemmas.Bool.{eq-eqb, ne_eqb}
-use Rattle.std.proofs.lemmas.Nat.{pow_pos}
-use Rattle.std.proofs.lemmas.Nat.Bits.{bit_at_and, bit_at_or, bit_at-lt, and_pow}
-use Rattle.ncl_gates.specs.Bits.{is_set}
+use Rattle.ncl_gates.proofs.Terms.{Bool, and_pow, ap, arith, bit_at, bit_at-lt, bit_at_and, bit_at_or, bit_or, eq-eqb, false, is_set, max, min, nat_eq, ne_eqb, pow_pos, refl, suc, sym, true, zero, ℕ, ◌&&◌, ◌*◌, ◌<◌, ◌^◌, ◌||◌, ◌∙◌, ◌≡◌}
+use Rattle.std.specs.Prelude.{bit_and}
 
 -- a function of bits as numbers and one of bits as truth values that agree at the four pairs agree at all
 at_bits : (f : ℕ → ℕ → ℕ) (g : Bool → Bool → Bool) → nat_eq (f 0 0) 1 ≡ g false false → nat_eq (f 0 1) 1 ≡ g false true → nat_eq (f 1 0) 1 ≡ g true false → nat_eq (f 1 1) 1 ≡ g true true → (x y : ℕ) → x < 2 → y < 2 → nat_eq (f x y) 1 ≡ g (nat_eq x 1) (nat_eq y 1)

@@ -1,11 +1,6 @@
 -- The dual of each gate makes the complement from the complements: the whole table is computed.
-use Rattle.std.proofs.Common.{◌≡◌, ℕ, zero, suc, List, [], ◌∷◌, Bool, true, false, not, ◌&&◌, map, length, refl, arith}
+use Rattle.ncl_gates.proofs.Terms.{Bool, IsDual, Kind, List, Th12, [], and_parts, arith, arity_of, crossed, dual_of, dual_pins, false, is_crossed, length, map, not, refl, set_of, suc, true, zero, ℕ, ◌&&◌, ◌∷◌, ◌≡◌}
 use Rattle.std.specs.Prelude.{if◌then◌else◌}
-use Rattle.std.proofs.lemmas.Bool.{and_parts}
-use Rattle.ncl_gates.specs.declared.kind.Kind.{Kind}
-use Rattle.ncl_gates.specs.declared.kind.Kind.TheVariants.{Th12}
-use Rattle.ncl_gates.specs.Gate.{arity_of, set_of}
-use Rattle.ncl_gates.specs.Dual.{dual_of, is_crossed, crossed, dual_pins, IsDual}
 use Rattle.ncl_gates.proofs.Table.{every_kind}
 
 -- whether two values are one, as a test that computes

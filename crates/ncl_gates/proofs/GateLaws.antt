@@ -1,17 +1,7 @@
 -- The laws of the set functions. Only one fact about the table is computed, that each product has pins
 -- of its gate; the rest follows from the form, a sum of products.
-use Rattle.std.proofs.Common.{◌≡◌, ◌≢◌, ◌<◌, ◌+◌, ℕ, zero, suc, List, [], ◌∷◌, Bool, true, false, ◌&&◌, ◌||◌, ltb, map, length, get_or, slice_index_or, if◌then◌else◌, ap, refl, ◌∙◌, arith, take}
-use Rattle.std.specs.List.{list_any, list_all, All}
-use Rattle.std.proofs.lemmas.Bool.{and_parts, and_left, or_parts, ltb-true}
-use Rattle.std.proofs.lemmas.List.Sums.{AllPass-from_list_all, list_all-from_AllPass}
-use Rattle.std.proofs.lemmas.List.Folds.{list_any_none, list_any_at}
-use Rattle.ncl_gates.specs.declared.kind.Kind.{Kind}
-use Rattle.ncl_gates.specs.declared.kind.Kind.TheVariants.{Th12, Th13, Th14, Th22, Th33, Th44}
-use Rattle.ncl_gates.specs.Gate.{Pin, A, B, C, D, arity_of, products, place_of, at_pin, set_of, some_high}
-use Rattle.ncl_gates.specs.GateLaw.{all_high, IsMonotone, HasHysteresis, IsConjunction, IsDisjunction, IsProductWithin, HasProducts}
-use Rattle.ncl_gates.specs.declared.cell_kind.CellKind.{CellKind}
-use Rattle.ncl_gates.specs.declared.cell_kind.CellKind.TheVariants.{Gate, Register, RegisterData, Ack}
-use Rattle.ncl_gates.specs.Cell.{next_of_cell}
+use Rattle.ncl_gates.proofs.Terms.{A, Ack, AllPass-from_list_all, B, Bool, C, CellKind, D, Gate, HasHysteresis, HasProducts, IsConjunction, IsDisjunction, IsMonotone, IsProductWithin, Kind, List, Pin, Register, RegisterData, Th12, Th13, Th14, Th22, Th33, Th44, [], all_high, and_left, and_parts, ap, arith, arity_of, at_pin, false, get_or, if◌then◌else◌, length, list_all, list_all-from_AllPass, list_any, list_any_at, list_any_none, ltb, ltb-true, next_of_cell, or_parts, place_of, products, refl, set_of, slice_index_or, some_high, suc, take, true, zero, ℕ, ◌&&◌, ◌+◌, ◌<◌, ◌||◌, ◌∙◌, ◌∷◌, ◌≡◌, ◌≢◌}
+use Rattle.std.specs.List.{All}
 use Rattle.ncl_gates.proofs.ListTests.{list_all_more, list_any_more}
 use Rattle.ncl_gates.proofs.Table.{every_kind}
 

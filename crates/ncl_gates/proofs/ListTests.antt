@@ -1,7 +1,5 @@
 -- Tests over lists.
-use Rattle.std.proofs.Common.{◌≡◌, List, [], ◌∷◌, Bool, true, false, cond, Some, inl, inr, refl, subst}
-use Rattle.std.specs.List.{list_any, list_all, find}
-use Rattle.std.proofs.lemmas.Bool.{and_parts, and_from, or_cases, or_left, or_right}
+use Rattle.ncl_gates.proofs.Terms.{Bool, List, Some, [], and_from, and_parts, cond, false, find, inl, inr, list_all, list_any, or_cases, or_left, or_right, refl, subst, true, ◌∷◌, ◌≡◌}
 
 -- where each element that passes p passes q, a list that passes p does
 pub list_all_more : {X : Type 0} (p q : X → Bool) → ((x : X) → p x ≡ true → q x ≡ true) → (xs : List X) → list_all p xs ≡ true → list_all q xs ≡ true

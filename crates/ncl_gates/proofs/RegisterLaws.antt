@@ -1,9 +1,5 @@
 -- What the two register cells have in common, and that they are of no other sort.
-use Rattle.std.proofs.Common.{◌≡◌, true, false, refl, ap}
-use Rattle.std.proofs.lemmas.Bool.{both_ways}
-use Rattle.ncl_gates.specs.declared.cell_kind.CellKind.{CellKind}
-use Rattle.ncl_gates.specs.declared.cell_kind.CellKind.TheVariants.{Gate, Register, RegisterData, Ack}
-use Rattle.ncl_gates.specs.Cell.{pins_of, is_register, is_data_register}
+use Rattle.ncl_gates.proofs.Terms.{Ack, CellKind, Gate, Register, RegisterData, ap, both_ways, false, is_data_register, is_register, pins_of, refl, true, ◌≡◌}
 
 -- what holds of both register cells holds of each cell that is one
 pub by_register : (P : CellKind → Type 0) → P Register → P RegisterData → (k : CellKind) → is_register k ≡ true → P k

@@ -1,12 +1,5 @@
 -- The table of gates as a list, so that one test that computes covers all of it.
-use Rattle.std.proofs.Common.{◌≡◌, ◌≢◌, ℕ, List, Bool, true, Option, Some, None, IfSome, IfNone, refl, sym, ap, ◌∙◌}
-use Rattle.std.specs.List.{list_all, find}
-use Rattle.std.specs.Str.{bytes_eq}
-use Rattle.ncl_gates.specs.declared.kind.Kind.{Kind}
-use Rattle.ncl_gates.specs.declared.kind.Kind.TheVariants.{Th12}
-use Rattle.ncl_gates.specs.declared.kind.TheConstants.{KINDS}
-use Rattle.ncl_gates.specs.Name.{name_of}
-use Rattle.std.proofs.lemmas.Slice.Eq.{bytes_eq-Decides}
+use Rattle.ncl_gates.proofs.Terms.{Bool, IfNone, IfSome, KINDS, Kind, List, None, Option, Some, Th12, ap, bytes_eq, bytes_eq-Decides, find, list_all, name_of, refl, sym, true, ℕ, ◌∙◌, ◌≡◌, ◌≢◌}
 use Rattle.ncl_gates.proofs.ListTests.{find_passes, find_itself}
 
 -- the first gate of the table with a name

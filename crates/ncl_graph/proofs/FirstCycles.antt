@@ -1,10 +1,5 @@
 -- Whether a place lies on a cycle can be decided, so a graph has a first place on a cycle or none.
-use Rattle.std.proofs.Common.{ℕ, zero, suc, ◌<◌, List, length, ◌⊎◌, inl, inr, sym, subst, arith}
-use Rattle.std.specs.List.{Contains}
-use Rattle.std.proofs.lemmas.Bool.{cases_eq}
-use Rattle.ncl_graph.specs.Graph.{successors, Leads, IsOnCycle}
-use Rattle.ncl_graph.specs.Graph.Leads.{arc, further}
-use Rattle.ncl_base.proofs.Growing.{cases_contains}
+use Rattle.ncl_graph.proofs.Terms.{Contains, IsOnCycle, Leads, List, arc, arith, cases_contains, cases_eq, further, inl, inr, length, subst, suc, successors, sym, zero, ℕ, ◌<◌, ◌⊎◌}
 use Rattle.ncl_graph.proofs.Ranking.{leads_within}
 
 -- a place leads to another by way of places below a number alone (Warshall 1962)

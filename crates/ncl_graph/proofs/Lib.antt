@@ -1,3 +1,4 @@
+mod Terms
 pub mod Paths
 pub mod Searching
 pub mod Reaching

@@ -1,15 +1,5 @@
 -- Orders exist exactly where no place lies on a cycle.
-use Rattle.std.proofs.Common.{◌≡◌, ◌≢◌, ℕ, zero, suc, ◌+◌, ◌*◌, ◌<◌, ◌≤◌, List, [], ◌∷◌, ◌++◌, length, get_or, set, take, drop, replicate, ◌⊎◌, inl, inr, refl, sym, ap, ◌∙◌, subst, arith, append_assoc}
-use Rattle.std.specs.List.{All, Contains}
-use Rattle.std.proofs.lemmas.Bool.{cases_eq, cases_lt}
-use Rattle.std.proofs.lemmas.List.{get_or_past, get_or-replicate, length-replicate, length-append, length_push, get_or_append_left, get_or_at}
-use Rattle.std.proofs.lemmas.List.Elements.{All-nil, All-cons, All-contains, Contains-append_left}
-use Rattle.ncl_graph.specs.Graph.{successors, IsGraph, Leads, IsOnCycle, IsOrder, StandsAfter}
-use Rattle.ncl_graph.specs.Graph.Leads.{arc, further}
-use Rattle.ncl_graph.specs.declared.mark.Mark.{Mark}
-use Rattle.ncl_graph.specs.declared.mark.Mark.TheVariants.{New, Open, Done}
-use Rattle.ncl_graph.specs.Search.{IsSearch, StaysMet, mark_at, new_count}
-use Rattle.ncl_base.proofs.Growing.{cut_at, split_at, last_of}
+use Rattle.ncl_graph.proofs.Terms.{All, All-cons, All-contains, All-nil, Contains, Contains-append_left, Done, IsGraph, IsOnCycle, IsOrder, IsSearch, Leads, List, Mark, New, Open, StandsAfter, StaysMet, [], ap, append_assoc, arc, arith, cases_eq, cases_lt, cut_at, drop, further, get_or, get_or-replicate, get_or_append_left, get_or_at, get_or_past, inl, inr, last_of, length, length-append, length-replicate, length_push, mark_at, new_count, refl, replicate, set, split_at, subst, suc, successors, sym, take, zero, ℕ, ◌*◌, ◌++◌, ◌+◌, ◌<◌, ◌∙◌, ◌∷◌, ◌≡◌, ◌≢◌, ◌≤◌, ◌⊎◌}
 use Rattle.ncl_graph.proofs.Paths.{successor_inside}
 use Rattle.ncl_graph.proofs.Ranking.{leads_within}
 use Rattle.ncl_graph.proofs.Searching.{opens, closes, closes_cycle, path_leads, last_inside, fewer_new, no_more_new, new_from, now_met, StaysMet-set, finishes}

@@ -1,12 +1,5 @@
 -- Paths, and orders that grow at the end.
-use Rattle.std.proofs.Common.{ℕ, ◌<◌, List, [], ◌∷◌, ◌++◌, length, inl, inr, sym, subst, arith}
-use Rattle.std.specs.List.{Contains}
-use Rattle.std.proofs.lemmas.Bool.{cases_lt}
-use Rattle.std.proofs.lemmas.List.{get_or_past}
-use Rattle.std.proofs.lemmas.List.Elements.{All-contains}
-use Rattle.ncl_graph.specs.Graph.{successors, IsGraph, Leads, StandsAfter}
-use Rattle.ncl_graph.specs.Graph.Leads.{arc, further}
-use Rattle.ncl_base.proofs.Growing.{split_push}
+use Rattle.ncl_graph.proofs.Terms.{All-contains, Contains, IsGraph, Leads, List, StandsAfter, [], arc, arith, cases_lt, further, get_or_past, inl, inr, length, split_push, subst, successors, sym, ℕ, ◌++◌, ◌<◌, ◌∷◌}
 
 -- every successor is a place
 pub successor_inside : (g : List (List ℕ)) → IsGraph g → (i j : ℕ) → Contains (successors g i) j → j < length g

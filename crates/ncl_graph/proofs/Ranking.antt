@@ -1,12 +1,5 @@
 -- Ranks and cycles.
-use Rattle.std.proofs.Common.{ℕ, ◌<◌, ◌≤◌, List, [], length, inl, inr, subst, arith}
-use Rattle.std.specs.List.{All, Contains}
-use Rattle.std.proofs.lemmas.Bool.{cases_lt}
-use Rattle.std.proofs.lemmas.List.{get_or_past}
-use Rattle.std.proofs.lemmas.List.Elements.{All-contains}
-use Rattle.ncl_graph.specs.Graph.{successors, Leads, IsOnCycle}
-use Rattle.ncl_graph.specs.Graph.Leads.{arc, further}
-use Rattle.ncl_graph.specs.Ranks.{rank_of, NeverRises}
+use Rattle.ncl_graph.proofs.Terms.{All, All-contains, Contains, IsOnCycle, Leads, List, NeverRises, [], arc, arith, cases_lt, further, get_or_past, inl, inr, length, rank_of, subst, successors, ℕ, ◌<◌, ◌≤◌}
 
 -- what is no place has no successor
 no_successor : (g : List (List ℕ)) (i j : ℕ) → length g ≤ i → Contains (successors g i) j → ⊥

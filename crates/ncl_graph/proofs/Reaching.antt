@@ -1,13 +1,6 @@
 -- Walks along arcs.
-use Rattle.std.proofs.Common.{◌≡◌, ℕ, ◌+◌, ◌<◌, Bool, true, false, not, List, [], ◌∷◌, ◌++◌, length, get_or, set, take, replicate, inl, inr, sym, ap, ◌∙◌, subst, cond, arith}
-use Rattle.std.specs.List.{All, Contains, count_by}
-use Rattle.std.proofs.lemmas.Bool.{cases_eq, cases_lt}
-use Rattle.std.proofs.lemmas.List.{get_or_past, get_or-set_same, get_or-set_other, get_or-replicate, length-set, length-replicate, length_push, take_more}
-use Rattle.std.proofs.lemmas.List.Elements.{All-nil, All-cons, All-weaker, All-push, All-append, All-contains, Contains-append_left, Contains-append_right, Contains-push, Contains-push_cases, Contains-get_or}
-use Rattle.std.proofs.lemmas.List.Sums.{sum_by-set}
-use Rattle.ncl_graph.specs.Graph.{successors, Leads}
-use Rattle.ncl_graph.specs.Graph.Leads.{arc, further}
-use Rattle.ncl_graph.specs.Reach.{was_reached, IsWalk, Reaches}
+use Rattle.ncl_graph.proofs.Terms.{All, All-append, All-cons, All-contains, All-nil, All-push, All-weaker, Bool, Contains, Contains-append_left, Contains-append_right, Contains-get_or, Contains-push, Contains-push_cases, IsWalk, Leads, List, Reaches, [], ap, arc, arith, cases_eq, cases_lt, cond, count_by, false, further, get_or, get_or-replicate, get_or-set_other, get_or-set_same, get_or_past, inl, inr, length, length-replicate, length_push, not, replicate, set, subst, successors, sum_by-set, sym, take, take_more, true, was_reached, ℕ, ◌++◌, ◌+◌, ◌<◌, ◌∙◌, ◌∷◌, ◌≡◌}
+use Rattle.std.proofs.lemmas.List.{length-set}
 use Rattle.ncl_graph.proofs.Paths.{Leads-push}
 
 -- one place that is new

@@ -1,17 +1,5 @@
 -- What a depth-first search keeps.
-use Rattle.std.proofs.Common.{◌≡◌, ◌≢◌, ℕ, ◌+◌, ◌<◌, ◌≤◌, List, [], ◌∷◌, ◌++◌, length, get_or, set, inl, inr, refl, sym, ap, ◌∙◌, subst, cond, arith, length-set}
-use Rattle.std.specs.List.{All, Contains}
-use Rattle.std.proofs.lemmas.Bool.{cases_eq, cases_lt}
-use Rattle.std.proofs.lemmas.List.{get_or_default, get_or_past, get_or_read, get_or-set_same, get_or-set_other, set_past}
-use Rattle.std.proofs.lemmas.List.Elements.{All-weaker, All-push, All-contains, All-get_or, Contains-get_or, Contains-append_left, Contains-push, Contains-push_cases}
-use Rattle.std.proofs.lemmas.List.Quantifiers.{all_pairs_push}
-use Rattle.std.proofs.lemmas.List.Sums.{sum_by-set}
-use Rattle.ncl_graph.specs.Graph.{successors, IsGraph, Leads, IsOnCycle, IsOrder}
-use Rattle.ncl_graph.specs.Graph.Leads.{arc}
-use Rattle.ncl_graph.specs.declared.mark.Mark.{Mark}
-use Rattle.ncl_graph.specs.declared.mark.Mark.TheVariants.{New, Open, Done}
-use Rattle.ncl_graph.specs.Search.{IsSearch, StaysMet, mark_at, new_count, is_new}
-use Rattle.ncl_base.proofs.Growing.{pair_last, pair_front, as_many_as}
+use Rattle.ncl_graph.proofs.Terms.{All, All-contains, All-get_or, All-push, All-weaker, Contains, Contains-append_left, Contains-get_or, Contains-push, Contains-push_cases, Done, IsGraph, IsOnCycle, IsOrder, IsSearch, Leads, List, Mark, New, Open, StaysMet, [], all_pairs_push, ap, arc, arith, as_many_as, cases_eq, cases_lt, cond, get_or, get_or-set_other, get_or-set_same, get_or_default, get_or_past, get_or_read, inl, inr, is_new, length, length-set, mark_at, new_count, pair_front, pair_last, refl, set, set_past, subst, successors, sum_by-set, sym, ℕ, ◌++◌, ◌+◌, ◌<◌, ◌∙◌, ◌∷◌, ◌≡◌, ◌≢◌, ◌≤◌}
 use Rattle.ncl_graph.proofs.Paths.{successor_inside, Leads-push, StandsAfter-push}
 
 -- a place that was met is one of those that have a mark

@@ -1,28 +1,6 @@
 -- The search in the joined stage answers as an explanation does.
-use Rattle.std.proofs.Common.{◌≡◌, ℕ, suc, List, ◌+◌, ◌<◌, ◌++◌, map, length, take, get_or, Some, sym, ap, ◌∙◌}
-use Rattle.std.specs.Prelude.{slice_get}
+use Rattle.ncl_hazard.proofs.Terms.{Base, IsSound, List, Orphan, PipelineData, Shape, Some, StageCell, StageData, Without, ap, ascending, brings, cells_of, distinct_beads, functions_before, functions_of, gate_as, get_or, joined, joined_cells, laid_out, least_input, least_word_by, length, length-append, length-map, made_count, map, map-append, names_after, net-tables, net_functions, net_tables_by, slice_get, slice_get-get_or, slice_get_within, stage_functions, suc, sym, table_of, tables_by, take, val, why_count, why_tables, words, words_by, words_by-ascending, ℕ, ◌++◌, ◌+◌, ◌<◌, ◌∙◌, ◌≡◌}
 use Rattle.std.specs.FinSet as set
-use Rattle.std.proofs.lemmas.List.{map-append, length-append, length-map}
-use Rattle.std.proofs.lemmas.Option.{slice_get_within, slice_get-get_or}
-use Rattle.ncl_shape.specs.declared.stage.StageCell.{StageCell}
-use Rattle.ncl_shape.specs.Stage.{StageData}
-use Rattle.ncl_shape.specs.Pipeline.{PipelineData}
-use Rattle.ncl_shape.specs.Shape.{Shape}
-use Rattle.ncl_cell_roles.proofs.LaidOut.{laid_out}
-use Rattle.ncl_space.specs.Table.{words, table_of}
-use Rattle.ncl_space.specs.Beads.{distinct_beads}
-use Rattle.ncl_faults.specs.Values.{val}
-use Rattle.ncl_faults.specs.declared.variant.Variant.TheVariants.{Base, Cell as Without}
-use Rattle.ncl_faults.specs.Faults.{IsSound, Orphan}
-use Rattle.ncl_stage.specs.LeastWords.{least_word_by}
-use Rattle.ncl_stage.specs.StageTables.{net_tables_by}
-use Rattle.ncl_stage.specs.Tables.{net_functions, functions_of, tables_by}
-use Rattle.ncl_stage.specs.BitOrder.{words_by}
-use Rattle.ncl_stage.proofs.OrderLaws.{words_by-ascending}
-use Rattle.ncl_stage.proofs.OutputLaws.{net-tables}
-use Rattle.ncl_hazard.specs.Joined.{gate_as, names_after, cells_of, joined_cells, joined}
-use Rattle.ncl_hazard.specs.Search.{ascending, made_count}
-use Rattle.ncl_hazard.specs.Why.{brings, functions_before, stage_functions, why_tables, why_count, least_input}
 use Rattle.ncl_hazard.proofs.JoinedLaws.{least-joined}
 use Rattle.ncl_hazard.proofs.JoinedTables.{made, asked, beads-joined}
 

@@ -1,32 +1,5 @@
 -- The first stages of a pipeline as one stage: its values are theirs, and it shows an orphan at the inputs that bring one.
-use Rattle.std.proofs.Common.{◌≡◌, ◌≢◌, ℕ, zero, suc, ◌+◌, ◌<◌, ◌≤◌, Bool, false, ◌&&◌, cond, List, [], ◌∷◌, ◌++◌, map, length, Some, inl, inr, refl, sym, ap, ◌∙◌, subst, arith}
-use Rattle.std.specs.Prelude.{slice_get, nat_eq}
-use Rattle.std.specs.List.{find}
-use Rattle.std.proofs.lemmas.Bool.{cases_eq, eq-eqb, ne_eqb}
-use Rattle.ncl_base.proofs.Members.{Member, Member-append_left, Member-append_cases, member_of_map, Member-from_Contains, Contains-from_slice_get}
-use Rattle.ncl_base.proofs.Places.{at_map}
-use Rattle.ncl_shape.specs.declared.rails.Rails.{Rails}
-use Rattle.ncl_shape.specs.declared.stage.StageCell.{StageCell}
-use Rattle.ncl_shape.specs.Stage.{StageData, IsStage, rail_nets, nets_of, out_of}
-use Rattle.ncl_shape.specs.Pipeline.{PipelineData}
-use Rattle.ncl_shape.specs.Shape.{Shape}
-use Rattle.ncl_cell_roles.specs.Layout.{in_rail, rail_at, Layout, IsLayoutOf, width, stage_nets}
-use Rattle.ncl_cell_roles.proofs.RailNets.{rail-place}
-use Rattle.ncl_cell_roles.proofs.Numbering.{inner_stage}
-use Rattle.ncl_space.proofs.TableLaws.{find-same}
-use Rattle.ncl_faults.specs.declared.variant.Variant.{Variant}
-use Rattle.ncl_faults.specs.declared.variant.Variant.TheVariants.{Base, Cell as Without}
-use Rattle.ncl_faults.specs.Values.{kept_low, output_net, val}
-use Rattle.ncl_faults.specs.Faults.{IsSound, Orphan, shows, holds_at, all_data}
-use Rattle.ncl_stage.specs.LeastWords.{least_word_by}
-use Rattle.ncl_stage.proofs.OrderLaws.{words_by-ascending}
-use Rattle.ncl_faults.proofs.ValueLaws.{rail-no_output}
-use Rattle.ncl_insensitivity.proofs.Composition.{word_at}
-use Rattle.ncl_machine.proofs.StageNets.{rail-listed, gate-listed}
-use Rattle.ncl_insensitivity.proofs.WiresSound.{wires_sound}
-use Rattle.ncl_hazard.specs.Joined.{named_as, rails_as, gate_as, inputs_of, cells_of, outputs_of, outputs_after, names_after, joined_cells, joined}
-use Rattle.ncl_hazard.specs.Search.{ascending}
-use Rattle.ncl_hazard.specs.Why.{brings, brings_orphan, least_input}
+use Rattle.ncl_hazard.proofs.Terms.{Base, Bool, Contains-from_slice_get, IsLayoutOf, IsSound, IsStage, Layout, List, Member, Member-append_cases, Member-append_left, Member-from_Contains, Orphan, PipelineData, Rails, Shape, Some, StageCell, StageData, Variant, Without, [], all_data, ap, arith, ascending, at_map, brings, brings_orphan, cases_eq, cells_of, cond, eq-eqb, false, find, find-same, gate-listed, gate_as, holds_at, in_rail, inl, inner_stage, inputs_of, inr, joined, joined_cells, kept_low, least_input, least_word_by, length, map, member_of_map, named_as, names_after, nat_eq, ne_eqb, nets_of, out_of, output_net, outputs_after, outputs_of, rail-listed, rail-no_output, rail-place, rail_at, rail_nets, rails_as, refl, shows, slice_get, stage_nets, subst, suc, sym, val, width, wires_sound, word_at, words_by-ascending, zero, ℕ, ◌&&◌, ◌++◌, ◌+◌, ◌<◌, ◌∙◌, ◌∷◌, ◌≡◌, ◌≢◌, ◌≤◌}
 use Rattle.ncl_hazard.proofs.Found.{own_stage, cells_are, word-brought}
 use Rattle.ncl_hazard.proofs.JoinedValues.{rail-name, gate-name, values-joined, all_data-joined}
 use Rattle.ncl_hazard.proofs.JoinedStage.{has-gate, gate-of, named-net, is-stage}

@@ -1,28 +1,5 @@
 -- Stages that are joined are a stage.
-use Rattle.std.proofs.Common.{◌≡◌, ◌≢◌, ℕ, zero, suc, ◌<◌, ◌≤◌, ◌⊎◌, List, [], ◌∷◌, ◌++◌, map, length, inl, inr, refl, sym, ap, ◌∙◌, subst, append_assoc, arith}
-use Rattle.std.specs.Prelude.{All, AllPairs, Contains}
-use Rattle.std.proofs.lemmas.Bool.{cases_eq}
-use Rattle.std.proofs.lemmas.List.{length-map, map-append, append-nil}
-use Rattle.std.proofs.lemmas.List.Elements.{All-contains}
-use Rattle.std.proofs.lemmas.List.Kept.{AllPairs-cons}
-use Rattle.ncl_base.specs.declared.word.TheConstants.{MOST_BITS}
-use Rattle.ncl_base.proofs.Lists.{pairs-head, pairs-tail}
-use Rattle.ncl_base.proofs.Members.{Member, here, there, Member-append_left, Member-append_right, Member-append_cases, Member-map, member_of_map, Member-from_Contains, Contains-from_Member, All-from_members}
-use Rattle.ncl_base.proofs.Tests.{AllPairs-append}
-use Rattle.ncl_gates.specs.Gate.{arity_of}
-use Rattle.ncl_netlist.specs.declared.ids.NetId.{NetId}
-use Rattle.ncl_netlist.specs.declared.cell.Cell.{Cell}
-use Rattle.ncl_cell_rules.specs.Origin.{CellAt}
-use Rattle.ncl_shape.specs.declared.rails.Rails.{Rails}
-use Rattle.ncl_shape.specs.declared.stage.StageCell.{StageCell}
-use Rattle.ncl_shape.specs.Stage.{IsStage, Reads, IsInOrder, rail_nets, nets_of, out_of}
-use Rattle.ncl_shape.specs.Pipeline.{PipelineData}
-use Rattle.ncl_cell_roles.specs.Layout.{out_rail, Layout, IsLayoutOf, stage_nets}
-use Rattle.ncl_cell_roles.proofs.RailNets.{rail-place}
-use Rattle.ncl_faults.proofs.Apart.{right-differ}
-use Rattle.ncl_stage.proofs.NetLaws.{left-differ}
-use Rattle.ncl_machine.proofs.StageNets.{gate-listed, out-listed}
-use Rattle.ncl_hazard.specs.Joined.{Names, named_as, net_as, rails_as, gate_as}
+use Rattle.ncl_hazard.proofs.Terms.{All, All-contains, All-from_members, AllPairs, AllPairs-append, AllPairs-cons, Cell, CellAt, Contains, Contains-from_Member, IsInOrder, IsLayoutOf, IsStage, Layout, List, MOST_BITS, Member, Member-append_cases, Member-append_left, Member-append_right, Member-from_Contains, Member-map, Names, NetId, PipelineData, Rails, Reads, StageCell, [], ap, append-nil, append_assoc, arith, arity_of, cases_eq, gate-listed, gate_as, here, inl, inr, left-differ, length, length-map, map, map-append, member_of_map, named_as, net_as, nets_of, out-listed, out_of, out_rail, pairs-head, pairs-tail, rail-place, rail_nets, rails_as, refl, right-differ, stage_nets, subst, suc, sym, there, zero, ℕ, ◌++◌, ◌<◌, ◌∙◌, ◌∷◌, ◌≡◌, ◌≢◌, ◌≤◌, ◌⊎◌}
 use Rattle.ncl_hazard.proofs.StageSweeps.{AreCellsOf}
 use Rattle.ncl_hazard.proofs.JoinedValues.{rail-name, gate-name}
 

@@ -1,31 +1,5 @@
 -- The tables that the joined stage makes have the beads of those of an explanation.
-use Rattle.std.proofs.Common.{◌≡◌, ℕ, zero, suc, ◌+◌, ◌<◌, ◌≤◌, Bool, ◌&&◌, ◌||◌, cond, List, [], ◌∷◌, ◌++◌, map, length, take, Some, inl, inr, refl, sym, ap, ◌∙◌, subst, arith}
-use Rattle.std.specs.Prelude.{slice_get}
-use Rattle.std.specs.List.{list_all}
-use Rattle.std.proofs.lemmas.Bool.{cases_eq, eq-eqb, ne_eqb}
-use Rattle.std.proofs.lemmas.List.{length-take-le}
-use Rattle.std.proofs.lemmas.Option.{slice_get_within}
-use Rattle.ncl_base.proofs.Members.{Member, here, there, Member-append_left, Member-append_right, Member-append_cases, Member-map, member_of_map, member_cases, Member-from_Contains, Contains-from_Member, Contains-from_slice_get, slice_get-from_Contains}
-use Rattle.ncl_shape.specs.declared.rails.Rails.{Rails}
-use Rattle.ncl_shape.specs.declared.stage.StageCell.{StageCell}
-use Rattle.ncl_shape.specs.Stage.{StageData, nets_of, out_of}
-use Rattle.ncl_shape.specs.Pipeline.{PipelineData}
-use Rattle.ncl_shape.specs.Shape.{Shape}
-use Rattle.ncl_cell_roles.specs.Layout.{Layout, IsLayoutOf, stage_nets}
-use Rattle.ncl_space.specs.Table.{words, table_of}
-use Rattle.ncl_space.specs.Beads.{distinct_beads}
-use Rattle.ncl_space.proofs.TableLaws.{table_of-same}
-use Rattle.ncl_space.proofs.BeadLaws.{HasMembers, distinct_beads-same}
-use Rattle.ncl_faults.specs.declared.variant.Variant.TheVariants.{Base, Cell as Without}
-use Rattle.ncl_faults.specs.Values.{val}
-use Rattle.ncl_faults.specs.Faults.{IsSound, has_data}
-use Rattle.ncl_stage.specs.Tables.{WordFunction, ValuesAt, fronts, net_functions, data_functions, data_fronts, all_data_function, orphan_function}
-use Rattle.ncl_stage.proofs.OutputLaws.{fronts-map}
-use Rattle.ncl_machine.specs.Composition.{stage_function, composed}
-use Rattle.ncl_insensitivity.proofs.Composition.{word_at}
-use Rattle.ncl_machine.proofs.StageNets.{gate-listed, outputs-listed}
-use Rattle.ncl_hazard.specs.Joined.{rails_as, gate_as, names_after, joined_cells, joined}
-use Rattle.ncl_hazard.specs.Why.{Way, brings, values_on, functions_before, orphan_on, functions_at}
+use Rattle.ncl_hazard.proofs.Terms.{Base, Bool, Contains-from_Member, Contains-from_slice_get, HasMembers, IsLayoutOf, IsSound, Layout, List, Member, Member-append_cases, Member-append_left, Member-append_right, Member-from_Contains, Member-map, PipelineData, Rails, Shape, Some, StageCell, StageData, ValuesAt, Way, Without, WordFunction, [], all_data_function, ap, arith, brings, cases_eq, composed, cond, data_fronts, data_functions, distinct_beads, distinct_beads-same, eq-eqb, fronts, fronts-map, functions_at, functions_before, gate-listed, gate_as, has_data, here, inl, inr, joined, joined_cells, length, length-take-le, list_all, map, member_cases, member_of_map, names_after, ne_eqb, net_functions, nets_of, orphan_function, orphan_on, out_of, outputs-listed, rails_as, refl, slice_get, slice_get-from_Contains, slice_get_within, stage_function, stage_nets, subst, suc, sym, table_of, table_of-same, take, there, val, values_on, word_at, words, zero, ℕ, ◌&&◌, ◌++◌, ◌+◌, ◌<◌, ◌||◌, ◌∙◌, ◌∷◌, ◌≡◌, ◌≤◌}
 use Rattle.ncl_hazard.proofs.Found.{word-brought}
 use Rattle.ncl_hazard.proofs.JoinedLaws.{stage-here, outputs-joined, joined-named, joined-net, joined-gate, joined-at, values-base, values-without}
 

@@ -1,3 +1,4 @@
+mod Terms
 pub mod Losing
 pub mod Tries
 pub mod Sweeps

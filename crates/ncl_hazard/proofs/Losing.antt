@@ -1,16 +1,6 @@
 -- What happens of the items that are tried is a run, and where a cell is enabled at first and not at the end, some item
 -- takes it back.
-use Rattle.std.proofs.Common.{◌≡◌, ◌≢◌, Bool, true, false, if◌then◌else◌, List, [], ◌∷◌, ◌++◌, ◌⊎◌, inl, inr, refl, sym, ap, ◌∙◌, subst}
-use Rattle.std.proofs.lemmas.Bool.{both_ways, cases_Bool}
-use Rattle.ncl_base.proofs.Members.{Member, here, there, member_cases}
-use Rattle.ncl_netlist.specs.declared.ids.CellId.{CellId}
-use Rattle.ncl_shape.specs.declared.item.Item.{Item}
-use Rattle.ncl_shape.specs.declared.item.Item.TheVariants.{Cell as Fire}
-use Rattle.ncl_shape.specs.Pipeline.{PipelineData}
-use Rattle.ncl_machine.specs.State.{State}
-use Rattle.ncl_machine.specs.Steps.{enabled, step}
-use Rattle.ncl_machine.specs.Run.{IsRunFrom, after}
-use Rattle.ncl_hazard.specs.Trying.{turned, tried, happened, Loses}
+use Rattle.ncl_hazard.proofs.Terms.{Bool, CellId, Fire, IsRunFrom, Item, List, Loses, Member, PipelineData, State, [], after, ap, both_ways, cases_Bool, enabled, false, happened, here, if◌then◌else◌, inl, inr, member_cases, refl, step, subst, sym, there, tried, true, turned, ◌++◌, ◌∙◌, ◌∷◌, ◌≡◌, ◌≢◌, ◌⊎◌}
 
 pub happened-run : (p : PipelineData) (s : State) (items : List Item) → IsRunFrom p s (happened p s items)
 happened-run p s [] = tt

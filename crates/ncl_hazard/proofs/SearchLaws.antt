@@ -1,17 +1,6 @@
 -- Where a question passes the limit.
-use Rattle.std.proofs.Common.{◌≡◌, ℕ, ◌<◌, ◌≤◌, true, false, List, [], ◌++◌, Some, length, sym, ap, ◌∙◌, arith}
-use Rattle.std.specs.Prelude.{nat_le, Result, Ok, Err, OnOk}
-use Rattle.std.proofs.lemmas.Bool.Decides.{nat_tests}
-use Rattle.ncl_shape.specs.Stage.{StageData}
-use Rattle.ncl_space.specs.Beads.{bead_count}
-use Rattle.ncl_space.specs.Space.{SpaceData, IsNew, Keeps, fits, is_within, with_tables}
-use Rattle.ncl_space.proofs.SpaceLaws.{count_of_both, too_much_by_front}
-use Rattle.ncl_space.proofs.MakingLaws.{fits-along}
-use Rattle.ncl_faults.specs.declared.variant.Variant.{Variant}
-use Rattle.ncl_faults.specs.declared.variant.Variant.TheVariants.{Base}
-use Rattle.ncl_stage.specs.StageTables.{net_tables_by}
-use Rattle.ncl_stage.specs.Tables.{tables_by}
-use Rattle.ncl_hazard.specs.Search.{ascending, question_count}
+use Rattle.ncl_hazard.proofs.Terms.{Base, IsNew, Keeps, List, Ok, OnOk, Result, Some, SpaceData, StageData, Variant, [], ap, arith, ascending, bead_count, count_of_both, false, fits, fits-along, is_within, length, nat_le, nat_tests, net_tables_by, question_count, sym, tables_by, too_much_by_front, true, with_tables, ℕ, ◌++◌, ◌<◌, ◌∙◌, ◌≡◌, ◌≤◌}
+use Rattle.std.specs.Prelude.{Err}
 
 le-from : (x y : ℕ) → nat_le x y ≡ true → x ≤ y
 le-from x y e = grind (arith, nat_tests)

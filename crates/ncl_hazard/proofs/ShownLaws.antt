@@ -1,27 +1,5 @@
 -- What an orphan that can be explained gives to the search for an input and to the run over it.
-use Rattle.std.proofs.Common.{◌≡◌, ◌≢◌, ℕ, suc, ◌+◌, ◌<◌, Bool, true, false, List, [], ◌∷◌, ◌++◌, length, Some, sym, ap, ◌∙◌, subst, arith}
-use Rattle.std.specs.Prelude.{All, slice_get}
-use Rattle.std.proofs.lemmas.Option.{slice_get_within}
-use Rattle.ncl_base.proofs.Members.{All-from_members, Member-from_Contains, Contains-from_slice_get}
-use Rattle.ncl_netlist.specs.declared.ids.CellId.{CellId}
-use Rattle.ncl_netlist.specs.Netlist.{NetlistData}
-use Rattle.ncl_cell_rules.specs.CellOrder.{IsCellOrder}
-use Rattle.ncl_cell_rules.specs.Origins.{OriginsData, AreOrigins}
-use Rattle.ncl_shape.specs.declared.stage.StageCell.{StageCell}
-use Rattle.ncl_shape.specs.declared.item.Item.TheVariants.{Cell as Fire}
-use Rattle.ncl_shape.specs.Stage.{StageData}
-use Rattle.ncl_shape.specs.Pipeline.{PipelineData}
-use Rattle.ncl_shape.specs.Shape.{Shape}
-use Rattle.ncl_space.specs.Table.{words}
-use Rattle.ncl_stage.proofs.OrderLaws.{words-length}
-use Rattle.ncl_cell_roles.proofs.LaidOut.{laid_out}
-use Rattle.ncl_machine.specs.Held.{InRange}
-use Rattle.ncl_machine.specs.State.{reset}
-use Rattle.ncl_machine.specs.Steps.{enabled}
-use Rattle.ncl_hazard.specs.Trying.{tried, HasNoDataBank}
-use Rattle.ncl_hazard.specs.Schedule.{coming, going}
-use Rattle.ncl_hazard.specs.Why.{brings_orphan, least_input}
-use Rattle.ncl_hazard.specs.Explained.{AreSoundBefore, BringsOrphan, IsPlaceOf}
+use Rattle.ncl_hazard.proofs.Terms.{All, All-from_members, AreOrigins, AreSoundBefore, Bool, BringsOrphan, CellId, Contains-from_slice_get, Fire, HasNoDataBank, InRange, IsCellOrder, IsPlaceOf, List, Member-from_Contains, NetlistData, OriginsData, PipelineData, Shape, Some, StageCell, StageData, [], ap, arith, brings_orphan, coming, enabled, false, going, laid_out, least_input, length, reset, slice_get, slice_get_within, subst, suc, sym, tried, true, words, words-length, ℕ, ◌++◌, ◌+◌, ◌<◌, ◌∙◌, ◌∷◌, ◌≡◌, ◌≢◌}
 use Rattle.ncl_hazard.proofs.Found.{cells_are}
 use Rattle.ncl_hazard.proofs.ShownRuns.{explained_of}
 use Rattle.ncl_hazard.proofs.ItemLaws.{coming-tried, going-tried}

@@ -1,24 +1,5 @@
 -- The source, tried bit by bit: it raises all rails of its word, and lowers them.
-use Rattle.std.proofs.Common.{◌≡◌, ℕ, zero, suc, ◌+◌, ◌<◌, ◌≤◌, Bool, true, false, not, ◌&&◌, if◌then◌else◌, List, [], ◌∷◌, map, length, Some, ◌⊎◌, inl, inr, refl, sym, ap, ◌∙◌, subst, arith}
-use Rattle.std.specs.Prelude.{slice_get}
-use Rattle.std.specs.List.{list_all, range_with_len}
-use Rattle.std.proofs.lemmas.Bool.{both_ways, cases_Bool, cases_eq, and_from, and_right, false_from_ne_true}
-use Rattle.ncl_base.proofs.Members.{Member, here, there}
-use Rattle.ncl_base.proofs.Tests.{list_all-member}
-use Rattle.ncl_shape.specs.declared.item.Item.{Item}
-use Rattle.ncl_shape.specs.declared.item.Item.TheVariants.{Raise, Lower}
-use Rattle.ncl_shape.specs.Nets.{Nets, with_net}
-use Rattle.ncl_shape.specs.Stage.{named_rails}
-use Rattle.ncl_shape.specs.Pipeline.{PipelineData}
-use Rattle.ncl_cell_roles.specs.Layout.{rail_at}
-use Rattle.ncl_machine.specs.State.{State}
-use Rattle.ncl_machine.specs.Steps.{differ, has_value, put_at, current_rails, rails_of_word, after_raise, after_lower, enabled, step}
-use Rattle.ncl_machine.proofs.AtWorkLaws.{with_net-elsewhere}
-use Rattle.ncl_machine.proofs.LocalNets.{with_net-here, with_net-keeps}
-use Rattle.ncl_machine.proofs.NamedRails.{bit_at, named-get, named-has, named-place}
-use Rattle.ncl_insensitivity.proofs.StepValues.{lowered-value}
-use Rattle.ncl_hazard.specs.Trying.{turned, tried}
-use Rattle.ncl_hazard.specs.Schedule.{raises, lowers}
+use Rattle.ncl_hazard.proofs.Terms.{Bool, Item, List, Lower, Member, Nets, PipelineData, Raise, Some, State, [], after_lower, after_raise, and_from, and_right, ap, arith, bit_at, both_ways, cases_Bool, cases_eq, current_rails, differ, enabled, false, false_from_ne_true, has_value, here, if◌then◌else◌, inl, inr, length, list_all, list_all-member, lowered-value, lowers, map, named-get, named-has, named-place, named_rails, not, put_at, rail_at, rails_of_word, raises, range_with_len, refl, slice_get, step, subst, suc, sym, there, tried, true, turned, with_net, with_net-elsewhere, with_net-here, with_net-keeps, zero, ℕ, ◌&&◌, ◌+◌, ◌<◌, ◌∙◌, ◌∷◌, ◌≡◌, ◌≤◌, ◌⊎◌}
 
 module _ (p : PipelineData) (word : List Bool) (wide : length word ≡ length p.inputs) where
   abbrev pub rails : List ℕ

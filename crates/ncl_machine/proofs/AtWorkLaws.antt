@@ -1,19 +1,6 @@
 -- The laws of a stage at work: no net is high that isn't high in its values.
-use Rattle.std.proofs.Common.{◌≡◌, ◌≢◌, ℕ, Bool, true, false, not, if◌then◌else◌, List, refl, subst}
-use Rattle.std.specs.Prelude.{Contains, nat_eq}
-use Rattle.std.proofs.lemmas.Bool.{and_from, both_ways, cond_both, cond-false, eqb-true, ne_eqb}
-use Rattle.ncl_gates.specs.Gate.{set_of, some_high}
-use Rattle.ncl_shape.specs.declared.stage.StageCell.{StageCell}
-use Rattle.ncl_shape.specs.Nets.{Nets, IsBelow, among, with_net}
-use Rattle.ncl_shape.specs.Stage.{StageData, named_rails}
-use Rattle.ncl_shape.specs.Closure.{pin_values}
-use Rattle.ncl_base.proofs.Members.{Member-from_Contains}
-use Rattle.ncl_faults.specs.declared.variant.Variant.TheVariants.{Base}
-use Rattle.ncl_faults.specs.Values.{holds, kept_low, val}
-use Rattle.ncl_faults.proofs.ValueLaws.{holds-grows, val-keeps, val-settled}
-use Rattle.ncl_faults.proofs.OnePass.{among-from_member}
-use Rattle.ncl_machine.specs.Steps.{differ}
-use Rattle.ncl_machine.specs.AtWork.{next_of_gate, IsExcited, IsRising, IsFalling, null, raise, settled, lower, fire}
+use Rattle.ncl_machine.proofs.Terms.{Base, Bool, Contains, IsBelow, IsExcited, IsFalling, IsRising, List, Member-from_Contains, Nets, StageCell, StageData, among, among-from_member, and_from, both_ways, cond-false, cond_both, differ, eqb-true, false, fire, holds, holds-grows, kept_low, lower, named_rails, nat_eq, ne_eqb, next_of_gate, not, null, pin_values, raise, refl, set_of, settled, some_high, subst, true, val, val-keeps, val-settled, with_net, ℕ, ◌≡◌, ◌≢◌}
+use Rattle.std.proofs.Common.{if◌then◌else◌}
 
 -- with one net changed the nets stay below others in which that net is as high
 pub with_net-below : (v w : Nets) (net : ℕ) (value : Bool) → IsBelow v w → (value ≡ true → w net ≡ true) → IsBelow (with_net v net value) w

@@ -1,12 +1,5 @@
 -- The net that a cell drives is no rail of the source, and not the sink's acknowledge.
-use Rattle.std.proofs.Common.{◌≡◌, ℕ, suc, ◌<◌, Bool, sym, ◌∙◌, subst, arith}
-use Rattle.ncl_base.proofs.Members.{Member}
-use Rattle.ncl_netlist.specs.declared.cell.Cell.{Cell}
-use Rattle.ncl_shape.specs.Stage.{rail_nets}
-use Rattle.ncl_shape.specs.Pipeline.{PipelineData}
-use Rattle.ncl_cell_roles.specs.Layout.{Layout, IsLayoutOf, in_rail, stage_nets, width, Part, of_stage, of_bank, of_tree}
-use Rattle.ncl_cell_roles.proofs.RailNets.{rail-within}
-use Rattle.ncl_faults.proofs.ValueLaws.{rail-no_output}
+use Rattle.ncl_machine.proofs.Terms.{Bool, Cell, IsLayoutOf, Layout, Member, Part, PipelineData, arith, in_rail, of_bank, of_stage, of_tree, rail-no_output, rail-within, rail_nets, stage_nets, subst, suc, sym, width, ℕ, ◌<◌, ◌∙◌, ◌≡◌}
 use Rattle.ncl_machine.proofs.StageNets.{rail-listed, gate-listed, tree-listed, ki-listed}
 
 module _ {p : PipelineData} {l : Layout} (is : IsLayoutOf p l) where

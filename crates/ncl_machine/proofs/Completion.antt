@@ -1,29 +1,7 @@
 -- Completion trees: a cell turns only where all that it reads is new to the wave, and the root only where the
 -- whole bank is.
-use Rattle.std.proofs.Common.{◌≡◌, ◌≢◌, ℕ, zero, suc, ◌+◌, ◌<◌, ◌≤◌, Bool, true, false, not, ◌||◌, if◌then◌else◌, List, [], ◌∷◌, length, ◌⊎◌, inl, inr, refl, sym, ap, ◌∙◌, subst, arith}
-use Rattle.std.specs.Prelude.{AllPairs}
-use Rattle.std.proofs.Math.Bool.{or-false, not-not}
-use Rattle.std.proofs.lemmas.Bool.{both_ways, and_parts}
-use Rattle.std.proofs.lemmas.List.{length-map}
-use Rattle.ncl_base.proofs.Members.{Member, here, there}
-use Rattle.ncl_gates.specs.declared.kind.Kind.{Kind}
-use Rattle.ncl_gates.specs.declared.cell_kind.CellKind.TheVariants.{Gate, Ack}
-use Rattle.ncl_gates.specs.Gate.{arity_of, next_of, set_of, some_high}
-use Rattle.ncl_gates.specs.Cell.{next_of_cell}
-use Rattle.ncl_gates.specs.GateLaw.{all_high}
-use Rattle.ncl_gates.proofs.GateLaws.{set_of-Th22, set_of-Th33, set_of-Th44, next_of-hysteresis}
-use Rattle.ncl_netlist.specs.declared.ids.NetId.{NetId}
-use Rattle.ncl_netlist.specs.declared.cell.Cell.{Cell}
-use Rattle.ncl_cell_rules.specs.Origin.{IsGate, IsTreeKind, th22, th33, th44}
-use Rattle.ncl_shape.specs.declared.rails.Rails.{Rails}
-use Rattle.ncl_shape.specs.Nets.{Nets}
-use Rattle.ncl_shape.specs.Closure.{pin_values, net_of}
-use Rattle.ncl_shape.specs.Pipeline.{PipelineData}
-use Rattle.ncl_shape.proofs.PinLaws.{some_high-low, all_high-from}
-use Rattle.ncl_cell_roles.specs.Layout.{in_rail, stage_nets, IsAckOn, IsAckOf, Layout, IsLayoutOf, TreePart, acks, completes, width}
-use Rattle.ncl_faults.specs.Faults.{has_data}
-use Rattle.ncl_faults.proofs.Apart.{same_from_value}
-use Rattle.ncl_machine.specs.Steps.{differ, next_value}
+use Rattle.ncl_machine.proofs.Terms.{Ack, AllPairs, Bool, Cell, Gate, IsAckOf, IsAckOn, IsGate, IsLayoutOf, IsTreeKind, Kind, Layout, List, Member, NetId, Nets, PipelineData, Rails, TreePart, [], acks, all_high, all_high-from, and_parts, ap, arith, arity_of, both_ways, completes, differ, false, has_data, here, in_rail, inl, inr, length, length-map, net_of, next_of, next_of-hysteresis, next_of_cell, next_value, not, not-not, or-false, pin_values, refl, same_from_value, set_of, set_of-Th22, set_of-Th33, set_of-Th44, some_high, some_high-low, stage_nets, subst, suc, sym, th22, th33, th44, there, true, width, zero, ℕ, ◌+◌, ◌<◌, ◌||◌, ◌∙◌, ◌∷◌, ◌≡◌, ◌≢◌, ◌≤◌, ◌⊎◌}
+use Rattle.std.proofs.Common.{if◌then◌else◌}
 use Rattle.ncl_machine.proofs.FallingLaws.{unfed-at}
 use Rattle.ncl_machine.proofs.TruthValues.{same_or_not, not_itself, differ_from_not, not-from_differ}
 use Rattle.ncl_machine.proofs.NamedRails.{data-same}

@@ -1,8 +1,5 @@
 -- A count along a list: what is left of it, one element on and at the end.
-use Rattle.std.proofs.Common.{◌≡◌, ℕ, ◌+◌, ◌<◌, ◌≤◌, Bool, true, false, List, length, drop, get_or, ap, ◌∙◌, arith}
-use Rattle.std.proofs.lemmas.List.{drop_more}
-use Rattle.std.proofs.Math.ListN.{drop_of_length-le}
-use Rattle.ncl_machine.specs.Tallies.{count_of}
+use Rattle.ncl_machine.proofs.Terms.{Bool, List, ap, arith, count_of, drop, drop_more, drop_of_length-le, false, get_or, length, true, ℕ, ◌+◌, ◌<◌, ◌∙◌, ◌≡◌, ◌≤◌}
 use Rattle.ncl_machine.proofs.Numbers.{one_if}
 
 module _ {X : Type 0} (test : X → Bool) (xs : List X) (k : ℕ) where

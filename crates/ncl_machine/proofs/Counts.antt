@@ -1,12 +1,5 @@
 -- How many elements of a list pass a test: none or all of them, and what a change of one element makes of it.
-use Rattle.std.proofs.Common.{◌≡◌, ◌≢◌, ℕ, suc, ◌+◌, ◌≤◌, Bool, true, false, not, ◌&&◌, List, [], ◌∷◌, length, inl, inr, refl, sym, ap, ◌∙◌, subst, arith}
-use Rattle.std.specs.Prelude.{nat_eq, AllPairs}
-use Rattle.std.specs.List.{list_all}
-use Rattle.std.proofs.lemmas.Bool.{cases_eq, eq-eqb, ne_eqb}
-use Rattle.ncl_base.proofs.Lists.{pairs-head, pairs-tail}
-use Rattle.ncl_base.proofs.Members.{Member, here, there}
-use Rattle.ncl_shape.specs.Nets.{Nets, with_net}
-use Rattle.ncl_machine.specs.Tallies.{count_of}
+use Rattle.ncl_machine.proofs.Terms.{AllPairs, Bool, List, Member, Nets, [], ap, arith, cases_eq, count_of, eq-eqb, false, here, inl, inr, length, list_all, nat_eq, ne_eqb, not, pairs-head, pairs-tail, refl, subst, suc, sym, there, true, with_net, ℕ, ◌&&◌, ◌+◌, ◌∙◌, ◌∷◌, ◌≡◌, ◌≢◌, ◌≤◌}
 use Rattle.ncl_machine.proofs.AtWorkLaws.{with_net-elsewhere}
 use Rattle.ncl_machine.proofs.LocalNets.{with_net-here}
 use Rattle.ncl_machine.proofs.Numbers.{one_if}

@@ -1,17 +1,5 @@
 -- An enabled item is one of the pipeline: its cell is there, and so is its bit.
-use Rattle.std.proofs.Common.{◌≡◌, ℕ, zero, suc, ◌<◌, ◌≤◌, Bool, true, false, ◌&&◌, List, [], ◌∷◌, length, Option, Some, None, refl, arith, not}
-use Rattle.std.specs.Prelude.{slice_get}
-use Rattle.std.proofs.lemmas.Bool.{both_ways}
-use Rattle.ncl_netlist.specs.declared.cell.Cell.{Cell}
-use Rattle.ncl_shape.specs.declared.rails.Rails.{Rails}
-use Rattle.ncl_shape.specs.Nets.{Nets}
-use Rattle.ncl_shape.specs.Pipeline.{PipelineData}
-use Rattle.ncl_shape.specs.Stage.{named_rails}
-use Rattle.ncl_shape.specs.declared.item.Item.{Item}
-use Rattle.ncl_shape.specs.declared.item.Item.TheVariants.{Cell as Fire, Raise, Lower, Take, Ready}
-use Rattle.ncl_machine.specs.State.{State}
-use Rattle.ncl_machine.specs.Steps.{current_rails, has_value, is_excited, rails_of_word, enabled}
-use Rattle.ncl_machine.specs.Held.{InRange}
+use Rattle.ncl_machine.proofs.Terms.{Bool, Cell, Fire, InRange, Item, List, Lower, Nets, None, Option, PipelineData, Rails, Raise, Ready, Some, State, Take, [], arith, both_ways, current_rails, enabled, false, has_value, is_excited, length, named_rails, not, rails_of_word, refl, slice_get, suc, true, zero, ℕ, ◌&&◌, ◌<◌, ◌∷◌, ◌≡◌, ◌≤◌}
 
 pub and3 : (a b c : Bool) → (a && b && c) ≡ true → (a ≡ true) × (b ≡ true) × (c ≡ true)
 and3 true true c on = (refl, refl, on)

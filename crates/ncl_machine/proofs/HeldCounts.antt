@@ -1,11 +1,5 @@
 -- How many banks hold words at reset, before a bank and after it, and the numbers with which banks start.
-use Rattle.std.proofs.Common.{◌≡◌, ℕ, zero, suc, ◌+◌, ◌-◌, ◌*◌, ◌≤◌, Bool, false, not, List, [], ◌∷◌, length, Option, None, Some, is_some, inl, inr, refl, ap, ◌∙◌, arith}
-use Rattle.std.specs.Prelude.{slice_get}
-use Rattle.std.proofs.lemmas.Bool.{cases_lt}
-use Rattle.ncl_shape.specs.declared.bank.Bank.{Bank}
-use Rattle.ncl_shape.specs.Pipeline.{PipelineData}
-use Rattle.ncl_shape.specs.Held.{is_data_bank, data_banks}
-use Rattle.ncl_cell_roles.specs.Layout.{Layout, IsLayoutOf}
+use Rattle.ncl_machine.proofs.Terms.{Bank, Bool, IsLayoutOf, Layout, List, None, Option, PipelineData, Some, [], ap, arith, cases_lt, data_banks, false, inl, inr, is_data_bank, is_some, length, not, refl, slice_get, suc, zero, ℕ, ◌*◌, ◌+◌, ◌-◌, ◌∙◌, ◌∷◌, ◌≡◌, ◌≤◌}
 use Rattle.ncl_machine.proofs.Numbers.{even, half, one_if, even-given, half-given}
 
 -- the bank after stage k holds a word

@@ -1,19 +1,7 @@
 -- Going through the nets of a stage in its order: the rails first, then the output of each cell, when all that
 -- the cell reads is known.
-use Rattle.std.proofs.Common.{◌≡◌, ◌≢◌, ℕ, Bool, true, false, List, [], ◌∷◌, ◌++◌, map, ◌⊎◌, inl, inr, refl, sym, ap, ◌∙◌, subst, append_assoc}
-use Rattle.std.specs.Prelude.{AllPairs, Contains, nat_eq}
-use Rattle.std.proofs.lemmas.Bool.{or_cases, both_ways, eqb-true}
-use Rattle.std.proofs.lemmas.List.{append-nil, map-append}
-use Rattle.std.proofs.lemmas.List.Elements.{All-contains}
-use Rattle.ncl_netlist.specs.declared.ids.NetId.{NetId}
-use Rattle.ncl_shape.specs.declared.rails.Rails.{Rails}
-use Rattle.ncl_shape.specs.declared.stage.StageCell.{StageCell}
-use Rattle.ncl_shape.specs.Nets.{among}
-use Rattle.ncl_shape.specs.Stage.{StageData, IsStage, named_rails, rail_nets, rail_of, nets_of, out_of}
-use Rattle.ncl_base.proofs.Members.{here, there, Member-append_cases, Contains-from_Member, Member-from_Contains, Member-append_left, Member-append_right}
-use Rattle.ncl_faults.proofs.Apart.{parts-differ, right-differ, named-within}
+use Rattle.ncl_machine.proofs.Terms.{All-contains, AllPairs, Bool, Contains, Contains-from_Member, IsStage, List, Member-append_cases, Member-append_left, Member-append_right, Member-from_Contains, NetId, Rails, StageCell, StageData, [], among, ap, append-nil, append_assoc, both_ways, eqb-true, false, here, inl, inr, map, map-append, named-within, named_rails, nat_eq, nets_of, or_cases, out_of, parts-differ, rail_nets, rail_of, rails_within, refl, right-differ, subst, sym, there, true, ℕ, ◌++◌, ◌∙◌, ◌∷◌, ◌≡◌, ◌≢◌, ◌⊎◌}
 use Rattle.ncl_base.specs.Members.{Member}
-use Rattle.ncl_shape.proofs.RailLaws.{rails_within}
 
 -- what holds of the rails, and of the output of each cell where it holds of all that the cell reads, holds of
 -- every net of the stage

@@ -1,3 +1,4 @@
+mod Terms
 pub mod AtWorkLaws
 pub mod InOrder
 pub mod SoundLaws

@@ -1,15 +1,5 @@
 -- The values of some nets alone: what a stage, or a tree, sees of the machine.
-use Rattle.std.proofs.Common.{◌≡◌, ℕ, Bool, true, false, ◌&&◌, cond, List, [], ◌∷◌, inl, inr, refl, sym, ap, ◌∙◌, subst}
-use Rattle.std.proofs.Math.Path.{fun_ext}
-use Rattle.std.specs.List.{list_all}
-use Rattle.std.proofs.lemmas.Bool.{and_from, and_parts, cases_eq, eq-eqb, false_from_ne_true}
-use Rattle.ncl_base.proofs.Members.{here, there}
-use Rattle.ncl_netlist.specs.declared.ids.NetId.{NetId}
-use Rattle.ncl_shape.specs.declared.rails.Rails.{Rails}
-use Rattle.ncl_shape.specs.Nets.{Nets, among, with_net}
-use Rattle.ncl_shape.specs.Closure.{pin_values}
-use Rattle.ncl_cell_roles.specs.Layout.{Layout, stage_nets}
-use Rattle.ncl_faults.proofs.OnePass.{among-from_member}
+use Rattle.ncl_machine.proofs.Terms.{Bool, Layout, List, NetId, Nets, Rails, [], among, among-from_member, and_from, and_parts, ap, cases_eq, cond, eq-eqb, false, false_from_ne_true, fun_ext, here, inl, inr, list_all, pin_values, refl, stage_nets, subst, sym, there, true, with_net, ℕ, ◌&&◌, ◌∙◌, ◌∷◌, ◌≡◌}
 use Rattle.ncl_machine.proofs.AtWorkLaws.{with_net-elsewhere}
 use Rattle.ncl_machine.proofs.NamedRails.{member-from_among}
 use Rattle.ncl_base.specs.Members.{Member}

@@ -1,18 +1,5 @@
 -- The other rail of a net, and what the change of a net makes of the count of outputs that have data.
-use Rattle.std.proofs.Common.{◌≡◌, ◌≢◌, ℕ, ◌+◌, ◌<◌, Bool, true, false, not, ◌||◌, List, [], ◌∷◌, ◌++◌, length, set, get_or, Option, None, Some, inl, inr, refl, sym, ap, ◌∙◌, subst, arith, length-set, get_or-set_same, get_or-set_other}
-use Rattle.std.specs.Prelude.{AllPairs, nat_eq, if◌then◌else◌}
-use Rattle.std.specs.Option.{option_or}
-use Rattle.std.proofs.lemmas.Bool.{cases_eq, eq-eqb, ne_eqb}
-use Rattle.ncl_base.proofs.Lists.{pairs-head, pairs-tail}
-use Rattle.ncl_base.proofs.Members.{Member, here, there}
-use Rattle.ncl_netlist.specs.declared.ids.NetId.{NetId}
-use Rattle.ncl_shape.specs.declared.rails.Rails.{Rails}
-use Rattle.ncl_shape.specs.Nets.{Nets, with_net}
-use Rattle.ncl_shape.specs.Stage.{rail_nets}
-use Rattle.ncl_shape.proofs.RailLaws.{rails_within}
-use Rattle.ncl_faults.specs.Faults.{has_data}
-use Rattle.ncl_machine.specs.Held.{net_values}
-use Rattle.ncl_machine.specs.Tallies.{count_of, mate_of, mate_in, is_covered_by}
+use Rattle.ncl_machine.proofs.Terms.{AllPairs, Bool, List, Member, NetId, Nets, None, Option, Rails, Some, [], ap, arith, cases_eq, count_of, eq-eqb, false, get_or, get_or-set_other, get_or-set_same, has_data, here, if◌then◌else◌, inl, inr, is_covered_by, length, length-set, mate_in, mate_of, nat_eq, ne_eqb, net_values, not, option_or, pairs-head, pairs-tail, rail_nets, rails_within, refl, set, subst, sym, there, true, with_net, ℕ, ◌++◌, ◌+◌, ◌<◌, ◌||◌, ◌∙◌, ◌∷◌, ◌≡◌, ◌≢◌}
 use Rattle.ncl_machine.proofs.AtWorkLaws.{with_net-elsewhere}
 use Rattle.ncl_machine.proofs.Counts.{count-same}
 use Rattle.ncl_machine.proofs.LocalNets.{with_net-here}

@@ -1,20 +1,7 @@
 -- The rails of bits by number: those that a word names, and what it says of them that a bit has data.
-use Rattle.std.proofs.Common.{◌≡◌, ◌≢◌, ℕ, zero, suc, ◌<◌, ◌≤◌, Bool, true, false, ◌||◌, List, [], ◌∷◌, ◌++◌, length, get_or, None, Some, inl, inr, refl, sym, ap, ◌∙◌, subst, arith}
-use Rattle.std.specs.Prelude.{AllPairs, slice_get, nat_eq}
-use Rattle.std.specs.List.{list_all}
-use Rattle.std.proofs.lemmas.Bool.{and_from, eqb-true, or_cases, or_left, or_right}
-use Rattle.ncl_base.proofs.Members.{here, there, Member-get_or, member_from_list_any, Member-append_left}
-use Rattle.ncl_shape.specs.declared.rails.Rails.{Rails}
-use Rattle.ncl_shape.specs.Nets.{Nets, among}
-use Rattle.ncl_shape.specs.Stage.{rail_of, rail_nets, named_rails}
-use Rattle.ncl_cell_roles.specs.Layout.{no_rails, rail_at}
-use Rattle.ncl_cell_roles.proofs.RailNets.{rail-within}
-use Rattle.ncl_faults.specs.Faults.{has_data}
-use Rattle.ncl_faults.proofs.Apart.{parts-differ, right-differ}
-use Rattle.ncl_faults.proofs.OnePass.{among-from_member}
+use Rattle.ncl_machine.proofs.Terms.{AllPairs, Bool, List, Member-append_left, Member-get_or, Nets, None, Rails, Some, [], among, among-from_member, and_from, ap, arith, eqb-true, false, get_or, has_data, here, inl, inr, length, list_all, member_from_list_any, named_rails, nat_eq, no_rails, or_cases, or_left, or_right, own_rail, parts-differ, rail-within, rail_at, rail_nets, rail_of, refl, right-differ, slice_get, subst, suc, sym, there, true, zero, ℕ, ◌++◌, ◌<◌, ◌||◌, ◌∙◌, ◌∷◌, ◌≡◌, ◌≢◌, ◌≤◌}
 use Rattle.ncl_machine.proofs.InOrder.{one_named}
 use Rattle.ncl_base.specs.Members.{Member}
-use Rattle.ncl_shape.proofs.RailLaws.{own_rail}
 
 -- the bit of a word by its number
 abbrev pub bit_at : List Bool → ℕ → Bool

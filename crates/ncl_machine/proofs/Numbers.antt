@@ -1,8 +1,5 @@
 -- Numbers of waves: even and odd, halves, and the numbers of a bank and the next.
-use Rattle.std.proofs.Common.{◌≡◌, ℕ, zero, suc, ◌+◌, ◌*◌, ◌≤◌, Bool, true, false, not, cond, refl, sym, ap, ◌∙◌, subst, arith}
-use Rattle.std.specs.Prelude.{if◌then◌else◌, nat_eq}
-use Rattle.std.proofs.Math.Bool.{not-not}
-use Rattle.std.proofs.lemmas.Bool.{both_ways, eq-eqb, ne_eqb}
+use Rattle.ncl_machine.proofs.Terms.{Bool, ap, arith, both_ways, cond, eq-eqb, false, if◌then◌else◌, nat_eq, ne_eqb, not, not-not, refl, subst, suc, sym, true, zero, ℕ, ◌*◌, ◌+◌, ◌∙◌, ◌≡◌, ◌≤◌}
 use Rattle.ncl_machine.proofs.TruthValues.{not_itself}
 
 abbrev pub even : ℕ → Bool

@@ -1,21 +1,7 @@
 -- The ends of a pipeline that has its shape, as a state keeps them: the rails of its inputs and outputs and its
 -- acknowledges differ and are nets, and no cell drives a rail of the inputs.
-use Rattle.std.proofs.Common.{◌≡◌, ◌≢◌, ℕ, suc, ◌<◌, ◌≤◌, false, List, map, length, Some, sym, ◌∙◌, subst, arith}
-use Rattle.std.specs.Prelude.{All, AllPairs, Contains, slice_get}
-use Rattle.ncl_base.specs.declared.word.TheConstants.{MOST_BITS}
-use Rattle.ncl_base.proofs.Members.{Member, All-from_members, Member-append_left, Member-from_Contains}
-use Rattle.std.proofs.lemmas.Bool.{false_from_ne_true}
-use Rattle.ncl_netlist.specs.declared.cell.Cell.{Cell}
-use Rattle.ncl_shape.specs.declared.rails.Rails.{Rails}
-use Rattle.ncl_shape.specs.Pipeline.{PipelineData}
-use Rattle.ncl_shape.specs.Shape.{Shape}
-use Rattle.ncl_shape.specs.Stage.{rail_nets, out_of}
-use Rattle.ncl_cell_roles.specs.Layout.{Layout, IsLayoutOf}
-use Rattle.ncl_cell_roles.proofs.RailNets.{rail-place}
-use Rattle.ncl_cell_roles.proofs.LaidOut.{laid_out_of}
-use Rattle.ncl_stage.proofs.NetLaws.{left-differ}
+use Rattle.ncl_machine.proofs.Terms.{All, All-from_members, AllPairs, Cell, Contains, IsLayoutOf, Layout, List, MOST_BITS, Member, Member-append_left, Member-from_Contains, PipelineData, Rails, Shape, Some, arith, false, false_from_ne_true, laid_out_of, left-differ, length, map, out_of, rail-place, rail_nets, reset_nets, slice_get, subst, suc, sym, ℕ, ◌<◌, ◌∙◌, ◌≡◌, ◌≢◌, ◌≤◌}
 use Rattle.ncl_machine.proofs.CellNets.{output-no_source, source-no_ki}
-use Rattle.ncl_machine.specs.State.{reset_nets}
 use Rattle.ncl_machine.proofs.Start.{stage-value, held-net, held-net_listed}
 use Rattle.ncl_machine.proofs.StageNets.{ki-listed, root-listed}
 

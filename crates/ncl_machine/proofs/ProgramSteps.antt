@@ -1,19 +1,5 @@
 -- What the program does at a step is what the table says.
-use Rattle.std.proofs.Common.{◌≡◌, ℕ, ◌+◌, ◌<◌, Bool, true, false, not, ◌&&◌, set, length, Option, None, Some, IfSome, refl, sym, ap, ◌∙◌, subst}
-use Rattle.std.specs.Prelude.{slice_get, Contains, if◌then◌else◌}
-use Rattle.std.specs.List.{list_all}
-use Rattle.std.proofs.lemmas.Bool.{and_parts, both_ways}
-use Rattle.ncl_base.proofs.Members.{Contains-from_slice_get}
-use Rattle.ncl_netlist.specs.declared.cell.Cell.{Cell}
-use Rattle.ncl_netlist.specs.declared.ids.CellId.{CellId}
-use Rattle.ncl_shape.specs.declared.item.Item.TheVariants.{Cell as Fire, Raise, Lower}
-use Rattle.ncl_shape.specs.Nets.{with_net}
-use Rattle.ncl_shape.specs.Stage.{rail_nets}
-use Rattle.ncl_shape.specs.Pipeline.{PipelineData}
-use Rattle.ncl_machine.specs.Steps.{current_rails, rails_of_word, enabled, step, fired, is_excited, next_value, has_value, put_at, after_raise, after_lower}
-use Rattle.ncl_machine.specs.OneChange.{net_of_step, out_at}
-use Rattle.ncl_machine.specs.Held.{Held, IsFor, meaning, net_values}
-use Rattle.ncl_machine.specs.Tallies.{current_word, raised_from, lowered_from}
+use Rattle.ncl_machine.proofs.Terms.{Bool, Cell, CellId, Contains, Contains-from_slice_get, Fire, Held, IfSome, IsFor, Lower, None, Option, PipelineData, Raise, Some, after_lower, after_raise, and_parts, ap, both_ways, current_rails, current_word, enabled, false, fired, has_value, if◌then◌else◌, is_excited, length, list_all, lowered_from, meaning, net_of_step, net_values, next_value, not, out_at, put_at, rail_nets, rails_of_word, raised_from, refl, set, slice_get, step, subst, sym, true, with_net, ℕ, ◌&&◌, ◌+◌, ◌<◌, ◌∙◌, ◌≡◌}
 use Rattle.ncl_machine.proofs.ProgramEnds.{AreProgramEnds}
 use Rattle.ncl_machine.proofs.TruthValues.{not-from_differ}
 use Rattle.ncl_machine.proofs.ValueLists.{net_values-set}

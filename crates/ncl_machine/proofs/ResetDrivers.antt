@@ -1,35 +1,6 @@
 -- The nets that cells drive high at reset, by their sources, are those of the banks that hold words and of the trees of
 -- the others.
-use Rattle.std.proofs.Common.{◌≡◌, ℕ, suc, ◌<◌, ◌≤◌, Bool, true, false, not, ◌&&◌, ◌||◌, cond, length, get_or, inl, inr, refl, sym, ap, ◌∙◌, subst, arith}
-use Rattle.std.specs.Prelude.{nat_eq}
-use Rattle.std.proofs.lemmas.Bool.{and_from, and_parts, both_ways, cases_Bool, eq-eqb, eqb-true, false_from_ne_true, or_cases}
-use Rattle.ncl_base.proofs.Members.{Member, Contains-from_Member, Contains-from_slice_get, Member-from_Contains, member_of_map, list_any-from_member, member_from_list_any, slice_get-from_Contains}
-use Rattle.ncl_base.proofs.Tests.{same_from_both}
-use Rattle.ncl_gates.specs.declared.cell_kind.CellKind.{CellKind}
-use Rattle.ncl_gates.specs.declared.cell_kind.CellKind.TheVariants.{Gate, Ack}
-use Rattle.ncl_gates.specs.Cell.{is_data_register}
-use Rattle.ncl_gates.proofs.RegisterLaws.{by_register}
-use Rattle.ncl_netlist.specs.declared.ids.NetId.{NetId}
-use Rattle.ncl_netlist.specs.declared.cell.Cell.{Cell}
-use Rattle.ncl_netlist.specs.Netlist.{NetlistData, IsNetlist}
-use Rattle.ncl_cell_rules.specs.declared.source.Source.{Source}
-use Rattle.ncl_cell_rules.specs.declared.source.Source.TheVariants.{Port, Rail, Ack as FromAck, Many}
-use Rattle.ncl_cell_rules.specs.Origin.{CellAt, IsCell, B, AckOf, ComesFrom}
-use Rattle.ncl_cell_rules.specs.Free.{IsFree}
-use Rattle.ncl_cell_rules.specs.Sources.{IsSourceOf, source_at}
-use Rattle.ncl_cell_rules.specs.Origins.{OriginsData, AreOrigins}
-use Rattle.ncl_cell_rules.proofs.DataBanks.{bank_of_mark, mark_of_bank}
-use Rattle.ncl_cell_rules.proofs.Drivers.{cell_fits, same_driver}
-use Rattle.ncl_cell_rules.proofs.OriginLaws.{ack_of_bank}
-use Rattle.ncl_cell_rules.proofs.NetOrigins.{one_origin}
-use Rattle.ncl_cell_rules.proofs.PinNumbers.{on_pin_within}
-use Rattle.ncl_shape.specs.Closure.{net_of}
-use Rattle.ncl_shape.specs.Pipeline.{PipelineData}
-use Rattle.ncl_shape.specs.Shape.{Shape}
-use Rattle.ncl_cell_roles.specs.Layout.{Layout, IsLayoutOf, Part, of_stage, of_bank, of_tree, TreePart, acks, completes, stage_nets}
-use Rattle.ncl_cell_roles.proofs.LaidOut.{laid_out_of}
-use Rattle.ncl_machine.specs.State.{data_nets, tree_nets, reset_nets}
-use Rattle.ncl_machine.specs.ResetValues.{asks_for_data, starts_high, cell_starts_high, drives_high, driven_high}
+use Rattle.ncl_machine.proofs.Terms.{Ack, AckOf, AreOrigins, B, Bool, Cell, CellAt, CellKind, ComesFrom, Contains-from_Member, Contains-from_slice_get, FromAck, Gate, IsCell, IsFree, IsLayoutOf, IsNetlist, IsSourceOf, Layout, Many, Member, Member-from_Contains, NetId, NetlistData, OriginsData, Part, PipelineData, Port, Rail, Shape, Source, TreePart, ack_of_bank, acks, and_from, and_parts, ap, arith, asks_for_data, bank_of_mark, both_ways, by_register, cases_Bool, cell_fits, cell_starts_high, completes, cond, data_nets, driven_high, drives_high, eq-eqb, eqb-true, false, false_from_ne_true, get_or, inl, inr, is_data_register, laid_out_of, length, list_any-from_member, mark_of_bank, member_from_list_any, member_of_map, nat_eq, net_of, not, of_bank, of_stage, of_tree, on_pin_within, one_origin, or_cases, refl, reset_nets, same_driver, same_from_both, slice_get-from_Contains, source_at, stage_nets, starts_high, subst, suc, sym, tree_nets, true, ℕ, ◌&&◌, ◌<◌, ◌||◌, ◌∙◌, ◌≡◌, ◌≤◌}
 use Rattle.ncl_machine.proofs.StageNets.{rail-listed, gate-listed, root-listed, tree-listed}
 use Rattle.ncl_machine.proofs.HeldCounts.{holds_word}
 use Rattle.ncl_machine.proofs.Start.{of-tree, in-trees}

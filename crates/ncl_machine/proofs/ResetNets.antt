@@ -1,28 +1,6 @@
 -- The nets that are high at reset, by the cells of the netlist: a bank holds a word where a cell of it is reset to 1, and
 -- the nets of its completion tree are high where it holds none.
-use Rattle.std.proofs.Common.{◌≡◌, ℕ, suc, ◌<◌, Bool, true, false, not, ◌&&◌, ◌||◌, List, Option, None, Some, is_some, ◌⊎◌, inl, inr, refl, sym, ap, ◌∙◌, subst, arith}
-use Rattle.std.specs.Prelude.{◌↔◌, nat_eq, Contains}
-use Rattle.std.proofs.lemmas.Bool.{and_from, and_parts, both_ways, cases_Bool, eq-eqb, eqb-true, false_from_ne_true, or_cases, or_left, or_right}
-use Rattle.std.proofs.lemmas.Option.{slice_get_within}
-use Rattle.ncl_base.proofs.Members.{Member, Contains-from_Member, Contains-from_slice_get, Member-from_Contains, member_of_map, list_any-from_member, member_from_list_any, slice_get-from_Contains}
-use Rattle.ncl_gates.specs.Cell.{is_data_register}
-use Rattle.ncl_gates.proofs.RegisterLaws.{data_is_register, register_no_ack, register_no_gate}
-use Rattle.ncl_netlist.specs.declared.cell.Cell.{Cell}
-use Rattle.ncl_netlist.specs.Netlist.{NetlistData, IsNetlist}
-use Rattle.ncl_cell_rules.specs.Origin.{CellAt, IsGate, IsAck, B, IsDataBank, AckOf, ComesFrom}
-use Rattle.ncl_cell_rules.specs.Free.{IsFree}
-use Rattle.ncl_cell_rules.proofs.CellTests.{same_net}
-use Rattle.ncl_cell_rules.proofs.OriginLaws.{driver_of_ack}
-use Rattle.ncl_cell_rules.proofs.NetOrigins.{one_origin}
-use Rattle.ncl_shape.specs.declared.bank.Bank.{Bank}
-use Rattle.ncl_shape.specs.Held.{is_data_bank}
-use Rattle.ncl_shape.specs.Closure.{net_of}
-use Rattle.ncl_shape.specs.Pipeline.{PipelineData}
-use Rattle.ncl_shape.specs.Shape.{Shape}
-use Rattle.ncl_cell_roles.specs.Layout.{Layout, IsLayoutOf, Part, of_stage, of_bank, of_tree, TreePart, acks, completes, holds_rail, width}
-use Rattle.ncl_cell_roles.proofs.LaidOut.{laid_out_of}
-use Rattle.ncl_machine.specs.State.{data_nets, tree_nets, reset_nets}
-use Rattle.ncl_machine.specs.ResetLaw.{IsDataOutput, AsksForData, IsReset}
+use Rattle.ncl_machine.proofs.Terms.{AckOf, AsksForData, B, Bank, Bool, Cell, CellAt, ComesFrom, Contains, Contains-from_Member, Contains-from_slice_get, IsAck, IsDataBank, IsDataOutput, IsFree, IsGate, IsLayoutOf, IsNetlist, IsReset, Layout, List, Member, Member-from_Contains, NetlistData, None, Option, Part, PipelineData, Shape, Some, TreePart, acks, and_from, and_parts, ap, arith, both_ways, cases_Bool, completes, data_is_register, data_nets, driver_of_ack, eq-eqb, eqb-true, false, false_from_ne_true, holds_rail, inl, inr, is_data_bank, is_data_register, is_some, laid_out_of, list_any-from_member, member_from_list_any, member_of_map, nat_eq, net_of, not, of_bank, of_stage, of_tree, one_origin, or_cases, or_left, or_right, refl, register_no_ack, register_no_gate, reset_nets, same_net, slice_get-from_Contains, slice_get_within, subst, suc, sym, tree_nets, true, width, ℕ, ◌&&◌, ◌<◌, ◌||◌, ◌↔◌, ◌∙◌, ◌≡◌, ◌⊎◌}
 use Rattle.ncl_machine.proofs.NamedRails.{bit_at}
 use Rattle.ncl_machine.proofs.StageNets.{root-listed, tree-listed}
 use Rattle.ncl_machine.proofs.HeldCounts.{holds_word}

@@ -1,16 +1,5 @@
 -- The count of the rails that the source has raised, as nets change.
-use Rattle.std.proofs.Common.{◌≡◌, ◌≢◌, ℕ, ◌+◌, ◌<◌, ◌≤◌, Bool, true, false, not, List, length, set, None, Some, length-set, refl, sym, ap, ◌∙◌, subst, arith}
-use Rattle.std.specs.Prelude.{All, Contains, slice_get, nat_eq}
-use Rattle.std.specs.List.{list_all}
-use Rattle.std.proofs.lemmas.Bool.{false_from_ne_true}
-use Rattle.std.proofs.lemmas.List.Elements.{All-contains}
-use Rattle.std.proofs.lemmas.Option.{slice_get_within}
-use Rattle.ncl_base.proofs.Members.{Member, All-from_members, Contains-from_Member, Contains-from_slice_get, Member-from_Contains}
-use Rattle.ncl_shape.specs.Stage.{rail_nets}
-use Rattle.ncl_machine.specs.declared.pair.Pair.{Pair}
-use Rattle.ncl_machine.specs.Steps.{rails_of_word}
-use Rattle.ncl_machine.specs.Held.{Held, net_values}
-use Rattle.ncl_machine.specs.Tallies.{count_of, current_word, other_rails, rails_beside, IsCounted}
+use Rattle.ncl_machine.proofs.Terms.{All, All-contains, All-from_members, Bool, Contains, Contains-from_Member, Contains-from_slice_get, Held, IsCounted, List, Member, Member-from_Contains, None, Pair, Some, ap, arith, count_of, current_word, false, false_from_ne_true, length, length-set, list_all, nat_eq, net_values, not, other_rails, rail_nets, rails_beside, rails_of_word, refl, set, slice_get, slice_get_within, subst, sym, true, ℕ, ◌+◌, ◌<◌, ◌∙◌, ◌≡◌, ◌≢◌, ◌≤◌}
 use Rattle.ncl_machine.proofs.AtWorkLaws.{with_net-elsewhere}
 use Rattle.ncl_machine.proofs.Counts.{count-all, count-few, count-none, count-same, count-some, count-nothing, count-rises, count-falls}
 use Rattle.ncl_machine.proofs.SourceRails.{current-within, beside-within, current-apart, beside-apart, all_rails, length-current}

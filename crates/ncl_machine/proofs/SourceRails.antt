@@ -1,13 +1,5 @@
 -- The rails of the inputs that the current word names, and those beside them: all differ, and together they are all.
-use Rattle.std.proofs.Common.{◌≡◌, ◌≢◌, ℕ, Bool, true, false, not, List, [], ◌∷◌, length, map, Option, None, Some, inl, inr, refl, sym, ◌∙◌, subst, arith}
-use Rattle.std.specs.Prelude.{AllPairs}
-use Rattle.std.proofs.lemmas.List.Kept.{AllPairs-cons}
-use Rattle.ncl_base.proofs.Lists.{pairs-head, pairs-tail}
-use Rattle.ncl_base.proofs.Members.{Member, here, there, member_cases, All-from_members}
-use Rattle.ncl_shape.specs.declared.rails.Rails.{Rails}
-use Rattle.ncl_shape.specs.Stage.{rail_of, rail_nets, named_rails}
-use Rattle.ncl_machine.specs.Steps.{rails_of_word}
-use Rattle.ncl_machine.specs.Tallies.{rails_beside}
+use Rattle.ncl_machine.proofs.Terms.{All-from_members, AllPairs, AllPairs-cons, Bool, List, Member, None, Option, Rails, Some, [], arith, false, here, inl, inr, length, map, member_cases, named_rails, not, pairs-head, pairs-tail, rail_nets, rail_of, rails_beside, rails_of_word, refl, subst, sym, there, true, ℕ, ◌∙◌, ◌∷◌, ◌≡◌, ◌≢◌}
 
 abbrev pub AreApart : List ℕ → Type 0
 AreApart nets = AllPairs (λ x y. x ≢ y) nets

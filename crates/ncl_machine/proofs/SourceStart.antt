@@ -1,18 +1,5 @@
 -- At reset no rail is raised.
-use Rattle.std.proofs.Common.{◌≡◌, ℕ, ◌+◌, ◌<◌, false, List, [], Bool, length, sym, ap, ◌∙◌, subst}
-use Rattle.std.specs.Prelude.{All, slice_get}
-use Rattle.std.proofs.lemmas.List.Elements.{All-from_recursion}
-use Rattle.ncl_base.proofs.Members.{Member, All-from_members}
-use Rattle.ncl_shape.specs.declared.rails.Rails.{Rails}
-use Rattle.ncl_shape.specs.Pipeline.{PipelineData}
-use Rattle.ncl_shape.specs.Held.{data_banks}
-use Rattle.ncl_shape.specs.Stage.{rail_nets}
-use Rattle.ncl_machine.specs.declared.pair.Pair.{Pair}
-use Rattle.ncl_machine.specs.State.{reset_nets}
-use Rattle.ncl_machine.specs.Run.{AreWordsOf}
-use Rattle.ncl_machine.specs.Steps.{rails_of_word}
-use Rattle.ncl_machine.specs.Held.{Held, net_values}
-use Rattle.ncl_machine.specs.Tallies.{IsCounted, LevelsData, rails_beside}
+use Rattle.ncl_machine.proofs.Terms.{All, All-from_members, All-from_recursion, AreWordsOf, Bool, Held, IsCounted, LevelsData, List, Member, Pair, PipelineData, Rails, [], ap, data_banks, false, length, net_values, rail_nets, rails_beside, rails_of_word, reset_nets, slice_get, subst, sym, ℕ, ◌+◌, ◌<◌, ◌∙◌, ◌≡◌}
 use Rattle.ncl_machine.proofs.Counts.{count-nothing}
 use Rattle.ncl_machine.proofs.ProgramEnds.{AreProgramEnds}
 use Rattle.ncl_machine.proofs.SourceRails.{current-within, beside-within}

@@ -1,20 +1,5 @@
 -- The nets of a stage and of a tree: what belongs to one is listed among its nets.
-use Rattle.std.proofs.Common.{◌≡◌, ℕ, suc, ◌<◌, ◌≤◌, Bool, length, map, get_or, inl, inr, refl, sym, subst, arith}
-use Rattle.std.specs.Prelude.{Contains}
-use Rattle.std.proofs.lemmas.Bool.{cases_lt}
-use Rattle.std.proofs.lemmas.List.Elements.{All-contains}
-use Rattle.ncl_base.proofs.Members.{Member, here, Contains-from_Member, Member-from_Contains, Member-map, Member-append_left, Member-append_right}
-use Rattle.ncl_netlist.specs.declared.ids.NetId.{NetId}
-use Rattle.ncl_netlist.specs.declared.cell.Cell.{Cell}
-use Rattle.ncl_shape.specs.declared.rails.Rails.{Rails}
-use Rattle.ncl_shape.specs.declared.stage.StageCell.{StageCell}
-use Rattle.ncl_shape.specs.Stage.{StageData, IsStage, rail_nets, nets_of, out_of}
-use Rattle.ncl_shape.specs.Closure.{net_of}
-use Rattle.ncl_shape.specs.Pipeline.{PipelineData}
-use Rattle.ncl_shape.proofs.RailLaws.{rails_within}
-use Rattle.ncl_cell_roles.specs.Layout.{no_rails, Layout, IsLayoutOf, stage_nets, out_rail, rail_at, width}
-use Rattle.ncl_cell_roles.proofs.RailNets.{rail-within}
-use Rattle.ncl_faults.proofs.ValueLaws.{rail-no_output, same_output}
+use Rattle.ncl_machine.proofs.Terms.{All-contains, Bool, Cell, Contains, Contains-from_Member, IsLayoutOf, IsStage, Layout, Member, Member-append_left, Member-append_right, Member-from_Contains, Member-map, NetId, PipelineData, Rails, StageCell, StageData, arith, cases_lt, get_or, here, inl, inr, length, map, net_of, nets_of, no_rails, out_of, out_rail, rail-no_output, rail-within, rail_at, rail_nets, rails_within, refl, same_output, stage_nets, subst, suc, sym, width, ℕ, ◌<◌, ◌≡◌, ◌≤◌}
 use Rattle.ncl_machine.proofs.InOrder.{in_order}
 
 -- bit b of bank k

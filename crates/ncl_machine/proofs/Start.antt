@@ -1,29 +1,7 @@
 -- The invariant holds at reset: each bank that is reset to DATA holds its word, every other bank and every gate is low,
 -- and the completion trees of the others ask for DATA.
-use Rattle.std.proofs.Common.{◌≡◌, ℕ, zero, suc, ◌<◌, ◌≤◌, Bool, true, false, not, ◌&&◌, ◌||◌, List, [], ◌∷◌, length, Option, None, Some, is_some, inl, inr, refl, sym, ap, ◌∙◌, subst, arith}
-use Rattle.std.specs.Prelude.{nat_eq}
-use Rattle.std.proofs.Math.Path.{fun_ext}
-use Rattle.std.proofs.Math.Bool.{not-not}
-use Rattle.std.proofs.lemmas.Bool.{and_from, and_parts, both_ways, cases_Bool, cases_lt, eq-eqb, eqb-true, false_from_ne_true, ne_eqb, or_left}
-use Rattle.ncl_base.proofs.Members.{Member, Contains-from_Member, Contains-from_slice_get, Member-from_Contains, slice_get-from_Contains, member_cases, member_of_map, list_any-from_member, member_from_list_any}
+use Rattle.ncl_machine.proofs.Terms.{Bool, Cell, CellAt, Contains-from_Member, Contains-from_slice_get, IsAckOf, IsLayoutOf, Layout, List, Member, Member-from_Contains, NetId, Nets, None, Option, Part, PipelineData, Some, TreePart, [], acks, among, among-from_member, and_from, and_parts, ap, arith, at_register, both_ways, cases_Bool, cases_lt, completes, data_is_register, data_nets, eq-eqb, eqb-true, false, false_from_ne_true, fun_ext, has_data, high_net, holds_rail, in_rail, inl, inr, is_data_register, is_some, joins_kind, joins_tree, length, list_any-from_member, member_cases, member_from_list_any, member_of_map, named_rails, nat_eq, ne_eqb, net_of, no_nets, not, not-not, of_bank, of_stage, of_tree, or_left, pin_values, refl, register_no_ack, register_no_gate, reset_nets, rounds-each, rounds-settled, same_from_both, slice_get-from_Contains, some_high, some_high-from, some_high-low, stage_nets, subst, suc, sym, tree_nets, true, width, zero, ℕ, ◌&&◌, ◌<◌, ◌||◌, ◌∙◌, ◌∷◌, ◌≡◌, ◌≤◌}
 use Rattle.ncl_base.specs.Members.{here, there}
-use Rattle.ncl_base.proofs.Tests.{same_from_both}
-use Rattle.ncl_gates.specs.Gate.{some_high}
-use Rattle.ncl_gates.specs.Cell.{is_data_register}
-use Rattle.ncl_gates.proofs.RegisterLaws.{at_register, data_is_register, register_no_ack, register_no_gate}
-use Rattle.ncl_netlist.specs.declared.ids.NetId.{NetId}
-use Rattle.ncl_netlist.specs.declared.cell.Cell.{Cell}
-use Rattle.ncl_cell_rules.specs.Origin.{CellAt}
-use Rattle.ncl_shape.specs.Nets.{Nets, among}
-use Rattle.ncl_shape.specs.Stage.{named_rails}
-use Rattle.ncl_shape.specs.Closure.{net_of, pin_values}
-use Rattle.ncl_shape.specs.Pipeline.{PipelineData}
-use Rattle.ncl_shape.proofs.Rounds.{rounds-each, rounds-settled}
-use Rattle.ncl_shape.proofs.PinLaws.{high_net, some_high-from, some_high-low}
-use Rattle.ncl_cell_roles.specs.Layout.{in_rail, Layout, IsLayoutOf, IsAckOf, Part, of_stage, of_bank, of_tree, TreePart, acks, completes, width, stage_nets, holds_rail}
-use Rattle.ncl_faults.specs.Faults.{has_data}
-use Rattle.ncl_faults.proofs.OnePass.{among-from_member}
-use Rattle.ncl_machine.specs.State.{joins_kind, joins_tree, no_nets, data_nets, tree_nets, reset_nets}
 use Rattle.ncl_machine.proofs.NamedRails.{bit_at, member-from_among, named-has, named-place}
 use Rattle.ncl_machine.proofs.StageNets.{in_bit, rail-listed, inputs-listed, tree-listed, ki-listed}
 use Rattle.ncl_machine.proofs.LocalNets.{local-at, in_stage, in_tree}

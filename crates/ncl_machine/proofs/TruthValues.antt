@@ -1,7 +1,5 @@
 -- Truth values that are the same, and that differ.
-use Rattle.std.proofs.Common.{◌≡◌, Bool, true, false, not, ◌||◌, ◌&&◌, ◌⊎◌, inl, inr, refl}
-use Rattle.std.proofs.lemmas.Bool.{both_ways}
-use Rattle.ncl_machine.specs.Steps.{differ}
+use Rattle.ncl_machine.proofs.Terms.{Bool, both_ways, differ, false, inl, inr, not, refl, true, ◌&&◌, ◌||◌, ◌≡◌, ◌⊎◌}
 
 pub same_or_not : (a b : Bool) → (a ≡ b) ⊎ (a ≡ not b)
 same_or_not true true = inl refl

@@ -1,9 +1,5 @@
 -- Values as a list and as a function.
-use Rattle.std.proofs.Common.{◌≡◌, ℕ, ◌<◌, Bool, false, cond, List, set, length, inl, inr, subst, refl, sym, ap, ◌∙◌, get_or-set_same, get_or-set_other}
-use Rattle.std.proofs.Math.Path.{fun_ext}
-use Rattle.std.proofs.lemmas.Bool.{cases_eq, eq-eqb, ne_eqb}
-use Rattle.ncl_shape.specs.Nets.{with_net}
-use Rattle.ncl_machine.specs.Held.{net_values}
+use Rattle.ncl_machine.proofs.Terms.{Bool, List, ap, cases_eq, cond, eq-eqb, false, fun_ext, get_or-set_other, get_or-set_same, inl, inr, length, ne_eqb, net_values, refl, set, subst, sym, with_net, ℕ, ◌<◌, ◌∙◌, ◌≡◌}
 
 -- a write to the list is a write to the function
 pub net_values-set : (values : List Bool) (net : ℕ) (value : Bool) → net < length values → net_values (set values net value) ≡ with_net (net_values values) net value

@@ -1,25 +1,5 @@
 -- What holds of the netlist that parts describe.
-use Rattle.std.proofs.Common.{◌≡◌, ℕ, zero, suc, ◌+◌, ◌-◌, ◌*◌, ◌<◌, ◌≤◌, ◌^◌, Bool, true, false, ◌||◌, List, [], ◌∷◌, ◌++◌, length, map, take, get_or, sym, refl, ap, ◌∙◌, subst, arith, All, EachIndex, slice_index, count_by, nat_eq, Result, Ok, Err}
-use Rattle.std.specs.Result.{IsErrAnd, IfErr}
-use Rattle.std.specs.List.{flat_map, list_any}
-use Rattle.std.proofs.lemmas.Option.{slice_get_within}
-use Rattle.std.proofs.lemmas.List.{length-append, length-map, length-take, map-append}
-use Rattle.std.proofs.lemmas.List.Elements.{All-cons, All-nil, All-from_get_or, All-map, All-take, All-head, All-tail}
-use Rattle.std.proofs.lemmas.List.Folds.{list_any-append, list_any_at}
-use Rattle.std.proofs.lemmas.List.Sums.{fold-append}
-use Rattle.ncl_gates.proofs.PinLaws.{pins_of-some, pins_of-few}
-use Rattle.indexmap.specs.IndexSet.{insert_key, insert_all}
-use Rattle.ncl_netlist.specs.declared.parts.PartCell.{PartCell}
-use Rattle.ncl_netlist.specs.declared.parts.Parts.{Parts}
-use Rattle.ncl_netlist.specs.declared.cell.Cell.{Cell}
-use Rattle.ncl_netlist.specs.declared.port.Port.{Port}
-use Rattle.ncl_netlist.specs.Names.{same_name, AllDiffer, once_each, name_number, IsFirstWhere}
-use Rattle.ncl_netlist.specs.declared.ids.NetId.{NetId}
-use Rattle.ncl_netlist.specs.Netlist.{drives, pin_names, CellFits, IsNetlist}
-use Rattle.ncl_netlist.specs.Parts.{HasAllPins, port_names, nets_of, input_names, output_name, net_of, cell_of, netlist_of}
-use Rattle.ncl_netlist.specs.Faults.{HasFewCells, HasOwnCellNames, IsFaultless, IsFaultOf, IsFaultOfCounts, drivers_at}
-use Rattle.ncl_netlist.specs.declared.build_fault.BuildFault.{BuildFault}
-use Rattle.ncl_netlist.specs.declared.build_fault.BuildFault.TheVariants.{TooMany, SameName, TwoDrivers, NoDriver, Memory}
+use Rattle.ncl_netlist.proofs.Terms.{All, All-cons, All-from_get_or, All-head, All-map, All-nil, All-tail, All-take, AllDiffer, Bool, BuildFault, Cell, CellFits, EachIndex, Err, HasAllPins, HasFewCells, HasOwnCellNames, IfErr, IsErrAnd, IsFaultOf, IsFaultOfCounts, IsFaultless, IsFirstWhere, IsNetlist, List, Memory, NetId, NoDriver, Ok, PartCell, Parts, Port, Result, SameName, TooMany, TwoDrivers, [], ap, arith, cell_of, count_by, drivers_at, drives, false, flat_map, fold-append, get_or, input_names, insert_all, insert_key, length, length-append, length-map, length-take, list_any, list_any-append, list_any_at, map, map-append, name_number, nat_eq, net_of, netlist_of, nets_of, once_each, output_name, pin_names, pins_of-few, pins_of-some, port_names, refl, same_name, slice_get_within, slice_index, subst, suc, sym, take, true, zero, ℕ, ◌*◌, ◌++◌, ◌+◌, ◌-◌, ◌<◌, ◌^◌, ◌||◌, ◌∙◌, ◌∷◌, ◌≡◌, ◌≤◌}
 use Rattle.ncl_netlist.proofs.NameLists.{same_itself, insert_all-none, AllDiffer-once_each, take-once_each, length-insert_all, name_number-lt-length, list_any-once_each, get_or-name_number}
 
 or_true : (b : Bool) → (b || true) ≡ true

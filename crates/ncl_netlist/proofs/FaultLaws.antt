@@ -1,13 +1,5 @@
 -- Parts have one fault, or none.
-use Rattle.std.proofs.Common.{◌≡◌, ℕ, ◌<◌, ◌≤◌, ◌⊎◌, inl, inr, List, [], slice_get, get_or, unwrap_or, sym, refl, ap, ◌∙◌, arith, true≢false}
-use Rattle.std.proofs.lemmas.Option.{same_Some, slice_get_within, unwrap_or-slice_get}
-use Rattle.std.proofs.lemmas.Map.Keys.{apart_from_distinct}
-use Rattle.ncl_netlist.specs.declared.parts.Parts.{Parts}
-use Rattle.ncl_netlist.specs.declared.build_fault.BuildFault.{BuildFault}
-use Rattle.ncl_netlist.specs.declared.build_fault.BuildFault.TheVariants.{TooMany, SameName, TwoDrivers, NoDriver, Memory}
-use Rattle.ncl_netlist.specs.Names.{same_name, AllDiffer, Repeats, IsFirstWhere}
-use Rattle.ncl_netlist.specs.Parts.{cell_names, nets_of}
-use Rattle.ncl_netlist.specs.Faults.{drivers_at, HasNoTwoDrivers, IsFaultless, IsFaultOf}
+use Rattle.ncl_netlist.proofs.Terms.{AllDiffer, BuildFault, HasNoTwoDrivers, IsFaultOf, IsFaultless, IsFirstWhere, List, Memory, NoDriver, Parts, Repeats, SameName, TooMany, TwoDrivers, [], ap, apart_from_distinct, arith, cell_names, drivers_at, get_or, inl, inr, nets_of, refl, same_Some, same_name, slice_get, slice_get_within, sym, true≢false, unwrap_or, unwrap_or-slice_get, ℕ, ◌<◌, ◌∙◌, ◌≡◌, ◌≤◌, ◌⊎◌}
 use Rattle.ncl_netlist.proofs.NameLists.{same_itself}
 
 -- the name at the first place of which a fact holds is one name

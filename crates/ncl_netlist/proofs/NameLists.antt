@@ -1,15 +1,6 @@
 -- Lists of names: each name once, and the number of a name.
-use Rattle.std.proofs.Common.{◌≡◌, ℕ, ◌+◌, ◌<◌, ◌≤◌, Bool, true, false, not, ◌&&◌, ◌||◌, if◌then◌else◌, cond, List, [], ◌∷◌, ◌++◌, length, get_or, take, map, filter, sym, refl, ap, ◌∙◌, subst, arith, append_assoc, Bor}
-use Rattle.std.specs.List.{list_any, IsDistinct, AllByRecursion}
-use Rattle.std.specs.Cmp.{IsEquivalence, nat_eq_equiv}
-use Rattle.std.specs.Cmp.Lexicographic.{lists_equiv, same_text}
-use Rattle.std.proofs.lemmas.List.{append-nil, take_at, map-append, map_more}
-use Rattle.std.proofs.lemmas.List.Folds.{list_any-append}
-use Rattle.std.proofs.lemmas.List.Sums.{fold-append, fold_push, position_or_len_is, passes_at_first}
-use Rattle.std.proofs.lemmas.Map.Keys.{IsDistinct-head, IsDistinct-tail, apart_from_distinct, IsDistinct-push}
-use Rattle.std.proofs.lemmas.Grind.{common_steps}
-use Rattle.indexmap.specs.IndexSet.{insert_key, insert_all}
-use Rattle.ncl_netlist.specs.Names.{same_name, AllDiffer, once_each, name_number}
+use Rattle.std.specs.List.{IsDistinct}
+use Rattle.ncl_netlist.proofs.Terms.{AllByRecursion, AllDiffer, Bool, Bor, IsDistinct-head, IsDistinct-push, IsDistinct-tail, IsEquivalence, List, [], ap, apart_from_distinct, append-nil, append_assoc, arith, common_steps, cond, false, filter, fold-append, fold_push, get_or, if◌then◌else◌, insert_all, insert_key, length, list_any, list_any-append, lists_equiv, map, map-append, map_more, name_number, nat_eq_equiv, not, once_each, passes_at_first, position_or_len_is, refl, same_name, same_text, subst, sym, take, take_at, true, ℕ, ◌&&◌, ◌++◌, ◌+◌, ◌<◌, ◌||◌, ◌∙◌, ◌∷◌, ◌≡◌, ◌≤◌}
 
 -- ---- names that are the same
 

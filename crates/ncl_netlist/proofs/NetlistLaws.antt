@@ -1,15 +1,6 @@
 -- What follows from a netlist's facts: its nets by number and by name, its cells, and what drives a
 -- net.
-use Rattle.std.proofs.Common.{◌≡◌, ℕ, zero, suc, ◌<◌, ◌≤◌, ◌⊎◌, inl, inr, Bool, true, false, if◌then◌else◌, cond, List, [], ◌∷◌, length, map, take, slice_get, slice_index, Some, option_map, count_by, nat_eq, sym, refl, ap, ◌∙◌, arith}
-use Rattle.std.proofs.lemmas.Bool.{eq-eqb, eqb-true, cases_lt}
-use Rattle.std.proofs.lemmas.List.{length-take, length-map}
-use Rattle.std.proofs.lemmas.List.Sums.{sum_by-cons}
-use Rattle.std.proofs.lemmas.Option.{same_Some, none-some, slice_get-map, slice_get_within, get_or_from_slice_get}
-use Rattle.ncl_netlist.specs.declared.ids.NetId.{NetId}
-use Rattle.ncl_netlist.specs.declared.port.Port.{Port}
-use Rattle.ncl_netlist.specs.declared.cell.Cell.{Cell}
-use Rattle.ncl_netlist.specs.Names.{name_number}
-use Rattle.ncl_netlist.specs.Netlist.{NetlistData, drives, CellFits, IsNetlist}
+use Rattle.ncl_netlist.proofs.Terms.{Bool, Cell, CellFits, IsNetlist, List, NetId, NetlistData, Port, Some, [], ap, arith, cases_lt, cond, count_by, drives, eq-eqb, eqb-true, false, get_or_from_slice_get, if◌then◌else◌, inl, inr, length, length-map, length-take, map, name_number, nat_eq, none-some, option_map, refl, same_Some, slice_get, slice_get-map, slice_get_within, slice_index, suc, sum_by-cons, sym, take, true, zero, ℕ, ◌<◌, ◌∙◌, ◌∷◌, ◌≡◌, ◌≤◌, ◌⊎◌}
 use Rattle.ncl_netlist.proofs.NameLists.{name_number-get_or}
 
 -- ---- how many of a list pass a test

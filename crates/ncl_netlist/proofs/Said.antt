@@ -1,14 +1,5 @@
 -- The parts that say a netlist describe it again.
-use Rattle.std.proofs.Common.{◌≡◌, ℕ, ◌-◌, ◌<◌, List, [], ◌∷◌, ◌++◌, length, map, take, get_or, sym, refl, ap, ◌∙◌, subst, arith, All}
-use Rattle.std.specs.List.{flat_map}
-use Rattle.std.proofs.lemmas.List.{length-append, length-map, take_at, get_or_at, map-append}
-use Rattle.std.proofs.lemmas.List.Elements.{All-head, All-tail}
-use Rattle.ncl_netlist.specs.declared.ids.NetId.{NetId}
-use Rattle.ncl_netlist.specs.declared.cell.Cell.{Cell}
-use Rattle.ncl_netlist.specs.Names.{AllDiffer, once_each, name_number}
-use Rattle.ncl_netlist.specs.Netlist.{NetlistData, drivers_of, pin_names, CellFits, IsNetlist}
-use Rattle.ncl_netlist.specs.Parts.{input_names, output_name, net_of, cell_of, nets_of, netlist_of, part_of, parts_said}
-use Rattle.ncl_netlist.specs.Faults.{IsFaultless, drivers_at}
+use Rattle.ncl_netlist.proofs.Terms.{All, All-head, All-tail, AllDiffer, Cell, CellFits, IsFaultless, IsNetlist, List, NetId, NetlistData, [], ap, arith, cell_of, drivers_at, drivers_of, flat_map, get_or, get_or_at, input_names, length, length-append, length-map, map, map-append, name_number, net_of, netlist_of, nets_of, once_each, output_name, part_of, parts_said, pin_names, refl, subst, sym, take, take_at, ℕ, ◌++◌, ◌-◌, ◌<◌, ◌∙◌, ◌∷◌, ◌≡◌}
 use Rattle.ncl_netlist.proofs.NameLists.{name_number-get_or}
 
 -- the numbers of the names of nets are those of the nets, where names differ

@@ -1,24 +1,5 @@
 -- What the loops keep, and their steps.
-use Rattle.std.proofs.Common.{unwrap_or, true≢false, ◌-◌, ◌≡◌, ℕ, ◌+◌, ◌<◌, ◌≤◌, Bool, true, false, not, List, [], ◌∷◌, ◌++◌, length, map, take, filter, slice_get, get_or, Option, None, Some, sym, refl, ap, ◌∙◌, arith, append_assoc}
-use Rattle.std.specs.Iterator.{Yields}
-use Rattle.std.specs.List.{flat_map, list_any}
-use Rattle.std.specs.Vec.Iter.{into_iter_items, into_iter_len, into_iter_steps}
-use Rattle.std.specs.declared.vec.IntoIter.{IntoIter}
-use Rattle.std.proofs.lemmas.Iterator.Adapters.{YieldsList-from_vec}
-use Rattle.std.proofs.lemmas.Iterator.Consumers.{YieldsList-end}
-use Rattle.std.proofs.lemmas.List.{map-append, map-id, flat_map_more, length-take, get_or-take}
-use Rattle.std.proofs.lemmas.List.Sums.{fold-append}
-use Rattle.std.proofs.lemmas.List.Folds.{Any-from_list_any}
-use Rattle.std.proofs.lemmas.Map.Keys.{apart_from_distinct}
-use Rattle.std.proofs.lemmas.Option.{slice_get-get_or, slice_get_within, unwrap_or-slice_get}
-use Rattle.indexmap.specs.IndexSet.{insert_key, insert_all}
-use Rattle.arrayvec.specs.ArrayVec.{ArrayVec}
-use Rattle.ncl_gates.proofs.PinLaws.{pins_of-few}
-use Rattle.ncl_netlist.specs.declared.ids.NetId.{NetId}
-use Rattle.ncl_netlist.specs.declared.cell.Cell.{Cell}
-use Rattle.ncl_netlist.specs.declared.parts.PartCell.{PartCell}
-use Rattle.ncl_netlist.specs.Parts.{HasAllPins, input_names, output_name, net_of, cell_of}
-use Rattle.ncl_netlist.specs.Names.{same_name, AllDiffer, Repeats, IsFirstWhere, once_each}
+use Rattle.ncl_netlist.proofs.Terms.{AllDiffer, Any-from_list_any, ArrayVec, Bool, Cell, HasAllPins, IntoIter, IsFirstWhere, List, NetId, None, Option, PartCell, Repeats, Some, Yields, YieldsList-end, YieldsList-from_vec, [], ap, apart_from_distinct, append_assoc, arith, cell_of, false, filter, flat_map, flat_map_more, fold-append, get_or, get_or-take, input_names, insert_all, insert_key, into_iter_items, into_iter_len, into_iter_steps, length, length-take, list_any, map, map-append, map-id, net_of, not, once_each, output_name, pins_of-few, refl, same_name, slice_get, slice_get-get_or, slice_get_within, sym, take, true, true≢false, unwrap_or, unwrap_or-slice_get, ℕ, ◌++◌, ◌+◌, ◌-◌, ◌<◌, ◌∙◌, ◌∷◌, ◌≡◌, ◌≤◌}
 use Rattle.ncl_netlist.proofs.NameLists.{insert_all-grows, insert_fresh, length-insert_all, equal_names, same_itself}
 
 -- the names of xs were inserted after the first ones, and ys are the numbered xs, whatever names

@@ -1,25 +1,6 @@
 -- The covers of a model in an order in which each stands after those that it reads.
-use Rattle.std.proofs.Common.{◌≡◌, ◌≢◌, ℕ, zero, suc, ◌+◌, ◌<◌, ◌≤◌, ◌^◌, true, false, cond, ◌==◌, nat_lt, List, [], ◌∷◌, length, map, get_or, take, drop, Option, Some, None, refl, sym, ap, ◌∙◌, subst, arith, ⊎_elim, zero-add}
-use Rattle.std.specs.Prelude.{All, AllPairs, Contains, IsSome, IfSome, sum, sum_by, slice_get, slice_set}
-use Rattle.std.specs.List.{filter_map}
-use Rattle.std.proofs.lemmas.Bool.{eqb-true, eq-eqb, ltb-true, lt-ltb}
-use Rattle.std.proofs.lemmas.List.{length-take, length-map, get_or-map, get_or_default, get_or-set_other, length-set}
-use Rattle.std.proofs.lemmas.List.FromFn.{get_or-range_with_len, get_or-map-range_with_len}
-use Rattle.std.proofs.lemmas.List.Elements.{All-nil, All-head, All-tail, Contains-append_cases}
-use Rattle.std.proofs.lemmas.List.Sums.{sum_by-cons, sum_by-set, sum-map}
-use Rattle.std.proofs.lemmas.Option.{slice_get-get_or}
-use Rattle.ncl_graph.specs.Graph.{successors, IsOnCycle, IsOrder}
-use Rattle.ncl_base.proofs.Growing.{Contains-filter_map_of, cut_at, length-le-sum_by, position_from-found}
-use Rattle.ncl_graph.proofs.Ranking.{leads_within}
-use Rattle.ncl_blif.specs.Model.{IsModel, signals_of, size_of_model, weight_of_rows}
-use Rattle.ncl_blif.specs.Dependence.{driver_place, dependency_graph}
-use Rattle.ncl_blif.specs.declared.model.Cover.{Cover}
-use Rattle.ncl_blif.specs.declared.model.Model.{Model}
-use Rattle.ncl_blif.proofs.DependenceLaws.{position_from-passes, Depends-from_Leads}
-use Rattle.ncl_network.specs.declared.network.Signal.{Signal}
-use Rattle.ncl_network.specs.declared.network.Node.{Node}
-use Rattle.ncl_network.specs.Network.{signal_value, weight_of_model, IsSource, IsNode}
-use Rattle.ncl_network.specs.Walk.{input_signal, weight_at, IsWalked}
+use Rattle.ncl_network.proofs.Terms.{All, All-head, All-nil, All-tail, AllPairs, Contains, Contains-append_cases, Contains-filter_map_of, Cover, Depends-from_Leads, IfSome, IsModel, IsNode, IsOnCycle, IsOrder, IsSome, IsSource, IsWalked, List, Model, Node, None, Option, Signal, Some, [], ap, arith, cond, cut_at, dependency_graph, driver_place, drop, eq-eqb, eqb-true, false, filter_map, get_or, get_or-map, get_or-map-range_with_len, get_or-range_with_len, get_or-set_other, get_or_default, input_signal, leads_within, length, length-le-sum_by, length-map, length-set, length-take, lt-ltb, ltb-true, map, nat_lt, position_from-found, position_from-passes, refl, signal_value, signals_of, size_of_model, slice_get, slice_get-get_or, slice_set, subst, suc, successors, sum-map, sum_by, sum_by-cons, sum_by-set, sym, take, true, weight_at, weight_of_model, weight_of_rows, zero, zero-add, ℕ, ⊎_elim, ◌+◌, ◌<◌, ◌==◌, ◌^◌, ◌∙◌, ◌∷◌, ◌≡◌, ◌≢◌, ◌≤◌}
+use Rattle.std.specs.Prelude.{sum}
 
 -- ---- how much there is
 

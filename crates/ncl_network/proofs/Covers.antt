@@ -1,9 +1,5 @@
 -- The value of a cover, by what its rows and a word have at each place.
-use Rattle.std.proofs.Common.{◌≡◌, ◌<◌, Bool, true, false, not, cond, ◌&&◌, ◌||◌, List, [], ◌∷◌, length, refl, ap, ◌∙◌, arith}
-use Rattle.std.specs.Bool.{beq}
-use Rattle.std.specs.List.{list_any, list_all, zip}
-use Rattle.ncl_blif.specs.Meaning.{lit_matches, row_matches, cover_value}
-use Rattle.ncl_blif.specs.declared.model.Lit.{Lit}
+use Rattle.ncl_network.proofs.Terms.{Bool, List, Lit, [], ap, arith, beq, cond, cover_value, false, length, list_all, list_any, lit_matches, not, refl, row_matches, true, zip, ◌&&◌, ◌<◌, ◌||◌, ◌∙◌, ◌∷◌, ◌≡◌}
 
 row_matches-zip : (row : List Lit) (word : List Bool) → list_all (λ (pair : Lit × Bool). lit_matches pair.0 pair.1) (zip row word) ≡ row_matches word row
 row_matches-zip [] word = refl

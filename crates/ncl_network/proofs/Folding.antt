@@ -1,19 +1,5 @@
 -- A cover folds into its live rows at the columns that matter.
-use Rattle.std.proofs.Common.{◌≡◌, ℕ, ◌+◌, ◌<◌, ◌≤◌, Bool, true, false, not, ◌&&◌, ◌||◌, cond, List, [], ◌∷◌, length, map, get_or, refl, sym, ap, ◌∙◌, subst, arith, ⊎_elim, zero-add}
-use Rattle.std.specs.Prelude.{All}
-use Rattle.std.specs.List.{list_any, enumerate_from}
-use Rattle.std.proofs.lemmas.Bool.{and_cases, and_parts, not-true, not-false}
-use Rattle.std.proofs.lemmas.List.{length-map, get_or-map, get_or_default}
-use Rattle.std.proofs.lemmas.List.FromFn.{length-enumerate_from}
-use Rattle.std.proofs.lemmas.List.Elements.{All-head, All-tail, All-map, All-weaker}
-use Rattle.ncl_blif.specs.Meaning.{lit_matches, row_matches, cover_value}
-use Rattle.ncl_blif.specs.declared.model.Lit.{Lit}
-use Rattle.ncl_blif.specs.declared.model.Lit.TheVariants.{Dash}
-use Rattle.ncl_network.specs.declared.network.SignalSource.TheVariants.{Const}
-use Rattle.ncl_network.specs.declared.network.Signal.{Signal}
-use Rattle.ncl_blif.specs.Model.{weight_of_rows}
-use Rattle.ncl_network.specs.Network.{signal_value, is_constant, is_dash}
-use Rattle.ncl_network.specs.Fold.{select, is_live, is_asked, kept_columns, two_level}
+use Rattle.ncl_network.proofs.Terms.{All, All-head, All-map, All-tail, All-weaker, Bool, Const, Dash, List, Lit, Signal, [], and_cases, and_parts, ap, arith, cond, cover_value, enumerate_from, false, get_or, get_or-map, get_or_default, is_asked, is_constant, is_dash, is_live, kept_columns, length, length-enumerate_from, length-map, list_any, lit_matches, map, not, not-false, not-true, refl, row_matches, select, signal_value, subst, sym, true, two_level, weight_of_rows, zero-add, ℕ, ⊎_elim, ◌&&◌, ◌+◌, ◌<◌, ◌||◌, ◌∙◌, ◌∷◌, ◌≡◌, ◌≤◌}
 use Rattle.ncl_network.proofs.Selecting.{get_or-test, select-map, length-select, length-select-le, All-select, All-select-test, sum_by-select-le}
 use Rattle.ncl_network.proofs.LiveRows.{constant_value, live_matches, live_are_live, not_asked, live_here, dash_matches, row_matches-select}
 

@@ -1,3 +1,4 @@
+mod Terms
 pub mod Covers
 pub mod Selecting
 pub mod LiveRows

@@ -1,17 +1,5 @@
 -- Why dead rows and columns that don't matter may go.
-use Rattle.std.proofs.Common.{◌≡◌, ℕ, ◌<◌, zero, suc, Bool, true, false, not, ◌&&◌, ◌||◌, cond, List, [], ◌∷◌, length, map, get_or, refl, sym, ap, ◌∙◌, subst, arith, ⊎_elim}
-use Rattle.std.specs.Prelude.{All}
-use Rattle.std.specs.List.{list_any}
-use Rattle.std.proofs.lemmas.Bool.{and_cases, and_parts, and_left, and_right, not-true, not-false, or_parts, true≢false}
-use Rattle.std.proofs.lemmas.List.Elements.{All-nil, All-cons}
-use Rattle.ncl_blif.specs.Meaning.{lit_matches, row_matches}
-use Rattle.ncl_blif.specs.declared.model.Lit.{Lit}
-use Rattle.ncl_blif.specs.declared.model.Lit.TheVariants.{Zero, One, Dash}
-use Rattle.ncl_network.specs.declared.network.SignalSource.{SignalSource}
-use Rattle.ncl_network.specs.declared.network.SignalSource.TheVariants.{Input, Node as FromNode, Const}
-use Rattle.ncl_network.specs.declared.network.Signal.{Signal}
-use Rattle.ncl_network.specs.Network.{source_value, signal_value, is_constant, is_dash}
-use Rattle.ncl_network.specs.Fold.{select, is_live, is_asked}
+use Rattle.ncl_network.proofs.Terms.{All, All-cons, All-nil, Bool, Const, Dash, FromNode, Input, List, Lit, One, Signal, SignalSource, Zero, [], and_cases, and_left, and_parts, and_right, ap, arith, cond, false, get_or, is_asked, is_constant, is_dash, is_live, length, list_any, lit_matches, map, not, not-false, not-true, or_parts, refl, row_matches, select, signal_value, source_value, subst, suc, sym, true, true≢false, zero, ℕ, ⊎_elim, ◌&&◌, ◌<◌, ◌||◌, ◌∙◌, ◌∷◌, ◌≡◌}
 
 -- a constant is the same wherever it is read
 constant_source : (word nodes : List Bool) (from : SignalSource) → is_constant from ≡ true → source_value word nodes from ≡ source_value [] [] from

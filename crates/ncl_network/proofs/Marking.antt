@@ -1,18 +1,6 @@
 -- Which nodes are marked, one node further.
-use Rattle.std.proofs.Common.{◌≡◌, ℕ, zero, suc, ◌+◌, ◌<◌, ◌≤◌, Bool, true, false, ◌||◌, List, [], ◌∷◌, length, get_or, replicate, Some, refl, sym, ap, ◌∙◌, subst, arith, ⊎_elim, add-zero, zero-add}
-use Rattle.std.specs.Prelude.{All, Contains, slice_get}
-use Rattle.std.proofs.lemmas.Bool.{eqb-true, eq-eqb, or_left, or_right, or_cases, false≢true, cases_eq}
-use Rattle.std.proofs.lemmas.List.Elements.{All-weaker}
-use Rattle.std.proofs.lemmas.List.Folds.{Any-from_list_any, list_any_at}
-use Rattle.std.proofs.lemmas.Option.{same_Some, slice_get_within, slice_get-get_or}
-use Rattle.ncl_network.specs.declared.network.SignalSource.{SignalSource}
-use Rattle.ncl_network.specs.declared.network.SignalSource.TheVariants.{Input, Node as FromNode, Const}
-use Rattle.ncl_network.specs.declared.network.Signal.{Signal}
-use Rattle.ncl_network.specs.declared.network.Node.{Node}
-use Rattle.ncl_network.specs.declared.network.Network.{Network}
-use Rattle.ncl_network.specs.Network.{IsSource, ReadBefore, output, reader}
+use Rattle.ncl_network.proofs.Terms.{All, All-weaker, Any-from_list_any, Bool, Const, Contains, FromNode, Input, IsInOrder, IsMarked, IsPlaced, IsSource, List, Network, Node, ReadBefore, Signal, SignalSource, Some, [], add-zero, ap, arith, cases_eq, eq-eqb, eqb-true, false, false≢true, get_or, is_kept, is_node, is_read, length, list_any_at, or_cases, or_left, or_right, output, reader, refl, replicate, same_Some, slice_get, slice_get-get_or, slice_get_within, subst, suc, sym, true, zero, zero-add, ℕ, ⊎_elim, ◌+◌, ◌<◌, ◌||◌, ◌∙◌, ◌∷◌, ◌≡◌, ◌≤◌}
 use Rattle.ncl_network.proofs.Walking.{IsSource-more}
-use Rattle.ncl_network.specs.Prune.{IsInOrder, IsPlaced, IsMarked, is_node, is_read, is_kept}
 
 -- ---- what is read
 

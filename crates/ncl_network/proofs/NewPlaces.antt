@@ -1,11 +1,5 @@
 -- The numbers of the nodes that are kept.
-use Rattle.std.proofs.Common.{◌≡◌, ℕ, zero, suc, ◌+◌, ◌<◌, ◌≤◌, Bool, true, false, cond, List, [], ◌∷◌, length, take, Some, refl, sym, ap, ◌∙◌, subst, arith, ⊎_elim, one-add, zero-add}
-use Rattle.std.specs.Prelude.{slice_get, count_by}
-use Rattle.std.proofs.lemmas.Bool.{false≢true, cases_lt}
-use Rattle.std.proofs.lemmas.List.{get_or_past, take-take, take_all}
-use Rattle.std.proofs.lemmas.List.Sums.{count_by_more_yes, count_by_more_no, sum_by-take-le, sum_by-cons}
-use Rattle.ncl_network.specs.Fold.{select}
-use Rattle.ncl_network.specs.Prune.{is_kept, new_place}
+use Rattle.ncl_network.proofs.Terms.{Bool, List, Some, [], ap, arith, cases_lt, cond, count_by, count_by_more_no, count_by_more_yes, false, false≢true, get_or_past, is_kept, length, new_place, one-add, refl, select, slice_get, subst, suc, sum_by-cons, sum_by-take-le, sym, take, take-take, take_all, true, zero, zero-add, ℕ, ⊎_elim, ◌+◌, ◌<◌, ◌∙◌, ◌∷◌, ◌≡◌, ◌≤◌}
 
 module _ (kept : List Bool) where
   pub kept_within : (k : ℕ) → is_kept kept k ≡ true → k < length kept

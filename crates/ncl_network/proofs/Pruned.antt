@@ -1,23 +1,5 @@
 -- The network of the nodes that are kept.
-use Rattle.std.proofs.Common.{◌≡◌, ℕ, suc, ◌+◌, ◌<◌, ◌≤◌, Bool, true, false, not, cond, List, [], ◌∷◌, ◌++◌, length, map, get_or, Some, refl, sym, ap, ◌∙◌, subst, arith, ⊎_elim, add-zero, zero-add}
-use Rattle.std.specs.Prelude.{All, Contains, slice_get, sum_by}
-use Rattle.std.specs.Option.{option_map}
-use Rattle.std.proofs.lemmas.Bool.{cases_lt, false≢true}
-use Rattle.std.proofs.lemmas.List.{get_or_default, length-map, get_or-map, get_or_append_left, get_or_push, length_push}
-use Rattle.std.proofs.lemmas.List.Elements.{All-head, All-tail, All-map, All-weaker}
-use Rattle.std.proofs.lemmas.List.Sums.{sum_by-cons}
-use Rattle.std.proofs.lemmas.Option.{slice_get-map}
-use Rattle.ncl_base.proofs.Growing.{length-le-sum_by}
-use Rattle.ncl_blif.specs.Meaning.{cover_value}
-use Rattle.ncl_blif.specs.Model.{most_size, weight_of_rows}
-use Rattle.ncl_network.specs.declared.network.SignalSource.{SignalSource}
-use Rattle.ncl_network.specs.declared.network.SignalSource.TheVariants.{Input, Node as FromNode, Const}
-use Rattle.ncl_network.specs.declared.network.Signal.{Signal}
-use Rattle.ncl_network.specs.declared.network.Node.{Node}
-use Rattle.ncl_network.specs.declared.network.Network.{Network}
-use Rattle.ncl_network.specs.Network.{source_value, signal_value, node_value, node_values, answer_of, is_constant, IsSource, ReadBefore, ReachesOutput, output, reader, IsNode, IsNetwork}
-use Rattle.ncl_network.specs.Fold.{select}
-use Rattle.ncl_network.specs.Prune.{IsInOrder, IsMarked, AreLeft, is_read, is_kept, new_place, moved_source, moved_signal, moved_node}
+use Rattle.ncl_network.proofs.Terms.{All, All-head, All-map, All-tail, All-weaker, AreLeft, Bool, Const, Contains, FromNode, Input, IsInOrder, IsMarked, IsNetwork, IsNode, IsSource, List, Network, Node, ReachesOutput, ReadBefore, Signal, SignalSource, Some, [], add-zero, answer_of, ap, arith, cases_lt, cond, cover_value, false, false≢true, get_or, get_or-map, get_or_append_left, get_or_default, get_or_push, is_constant, is_kept, is_read, length, length-le-sum_by, length-map, length_push, map, most_size, moved_node, moved_signal, moved_source, new_place, node_value, node_values, not, option_map, output, reader, refl, select, signal_value, slice_get, slice_get-map, source_value, subst, suc, sum_by, sum_by-cons, sym, true, weight_of_rows, zero-add, ℕ, ⊎_elim, ◌++◌, ◌+◌, ◌<◌, ◌∙◌, ◌∷◌, ◌≡◌, ◌≤◌}
 use Rattle.ncl_network.proofs.Selecting.{All-select, sum_by-select-le, length-select-le}
 use Rattle.ncl_network.proofs.Walking.{length-node_values}
 use Rattle.ncl_network.proofs.Marking.{is_read-from, node_reads}

@@ -1,11 +1,5 @@
 -- What a mask keeps.
-use Rattle.std.proofs.Common.{◌≡◌, ℕ, ◌+◌, ◌<◌, ◌≤◌, zero, suc, Bool, true, false, cond, List, [], ◌∷◌, ◌++◌, length, map, get_or, take, refl, sym, ap, ◌∙◌, arith, add-zero, add-one}
-use Rattle.std.specs.Prelude.{All, sum_by}
-use Rattle.std.specs.List.{enumerate_from}
-use Rattle.std.proofs.lemmas.List.{map-append}
-use Rattle.std.proofs.lemmas.List.Elements.{All-nil, All-cons, All-head, All-tail}
-use Rattle.std.proofs.lemmas.List.Sums.{sum_by-cons}
-use Rattle.ncl_network.specs.Fold.{select}
+use Rattle.ncl_network.proofs.Terms.{All, All-cons, All-head, All-nil, All-tail, Bool, List, [], add-one, add-zero, ap, arith, cond, enumerate_from, false, get_or, length, map, map-append, refl, select, suc, sum_by, sum_by-cons, sym, take, true, zero, ℕ, ◌++◌, ◌+◌, ◌<◌, ◌∙◌, ◌∷◌, ◌≡◌, ◌≤◌}
 
 -- one item more
 next_item : {X : Type 0} (mask : List Bool) (xs : List X) (i : ℕ) (x : X) → i < length mask → i < length xs → x ≡ get_or xs i x → select (take (suc i) mask) (take (suc i) xs) ≡ select (take i mask) (take i xs) ++ cond (get_or mask i false) (x ∷ []) []

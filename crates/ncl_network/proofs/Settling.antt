@@ -1,16 +1,6 @@
 -- What a cover without constants folds into.
-use Rattle.std.proofs.Common.{◌≡◌, ◌<◌, Bool, true, false, not, ◌&&◌, ◌||◌, cond, List, [], ◌∷◌, length, get_or, refl, ap, ◌∙◌, arith, ⊎_elim}
-use Rattle.std.specs.Prelude.{All}
-use Rattle.std.specs.List.{list_any, list_all}
-use Rattle.std.specs.Bool.{beq}
-use Rattle.std.proofs.lemmas.Bool.{and_parts, or_cases, or_left, or_right, and_from}
-use Rattle.std.proofs.lemmas.List.Elements.{All-head, All-tail}
-use Rattle.ncl_blif.specs.Meaning.{row_matches}
-use Rattle.ncl_blif.specs.declared.model.Lit.{Lit}
-use Rattle.ncl_blif.specs.declared.model.Lit.TheVariants.{Zero, One, Dash}
-use Rattle.ncl_network.specs.Network.{is_dash}
+use Rattle.ncl_network.proofs.Terms.{All, All-head, All-tail, Bool, Dash, List, Lit, One, Zero, [], and_from, and_parts, ap, arith, beq, cond, false, get_or, is_dash, is_one, is_zero, length, list_all, list_any, not, or_cases, or_left, or_right, refl, row_matches, true, two_level, ⊎_elim, ◌&&◌, ◌<◌, ◌||◌, ◌∙◌, ◌∷◌, ◌≡◌}
 use Rattle.ncl_network.proofs.LiveRows.{dash_matches}
-use Rattle.ncl_network.specs.Fold.{two_level, is_one, is_zero}
 
 -- a row of dashes alone matches everything
 idle_row : (bits : List Bool) (row : List Lit) → list_all is_dash row ≡ true → row_matches bits row ≡ true

@@ -1,26 +1,5 @@
 -- A walk over covers, one cover further.
-use Rattle.std.proofs.Common.{◌≡◌, ℕ, ◌+◌, ◌<◌, ◌≤◌, Bool, true, false, not, cond, ◌==◌, List, [], ◌∷◌, ◌++◌, length, map, take, get_or, Option, Some, None, refl, sym, ap, ◌∙◌, subst, arith, ⊎_elim, zero-add, add-zero, ◌⊎◌}
-use Rattle.std.specs.Option.{option_map}
-use Rattle.std.specs.Prelude.{⊤}
-use Rattle.std.specs.Prelude.{All, Contains, IsSome, IfSome, sum_by, slice_get}
-use Rattle.std.proofs.lemmas.Bool.{eqb-true, eq-eqb}
-use Rattle.std.proofs.lemmas.List.{map_push, map_more, get_or_append_left, get_or_push, length_push}
-use Rattle.std.proofs.lemmas.List.Elements.{All-nil, All-cons, All-push, Contains-push_cases}
-use Rattle.std.proofs.lemmas.List.Sums.{sum_by_push}
-use Rattle.std.proofs.lemmas.Option.{MatchOption-at_some, IfSome_then, same_Some, get_or_from_slice_get, slice_get_within, slice_get-map}
-use Rattle.ncl_blif.specs.Meaning.{cover_value, Fits}
-use Rattle.ncl_blif.specs.declared.model.Cover.{Cover}
-use Rattle.ncl_blif.specs.declared.model.Model.{Model}
-use Rattle.ncl_network.specs.declared.network.SignalSource.{SignalSource}
-use Rattle.ncl_network.specs.declared.network.SignalSource.TheVariants.{Input, Node as FromNode, Const}
-use Rattle.ncl_network.specs.declared.network.Signal.{Signal}
-use Rattle.ncl_network.specs.declared.network.Node.{Node}
-use Rattle.ncl_network.specs.declared.fold.Folded.{Folded}
-use Rattle.ncl_network.specs.declared.fold.Folded.TheVariants.{Signal as IntoSignal, Node as IntoNode}
-use Rattle.ncl_blif.specs.Model.{weight_of_rows}
-use Rattle.ncl_network.specs.Network.{source_value, signal_value, node_value, node_values, IsSource, ReadBefore, IsNode}
-use Rattle.ncl_network.specs.Fold.{folded_value, IsFolded, HasSources, weight_of_folded}
-use Rattle.ncl_network.specs.Walk.{nodes_with, signal_with, weight_at, IsWalked}
+use Rattle.ncl_network.proofs.Terms.{All, All-cons, All-nil, All-push, Bool, Const, Contains, Contains-push_cases, Cover, Fits, Folded, FromNode, HasSources, IfSome, IfSome_then, Input, IntoNode, IntoSignal, IsFolded, IsNode, IsSome, IsSource, IsWalked, List, MatchOption-at_some, Model, Node, None, Option, ReadBefore, Signal, SignalSource, Some, [], add-zero, ap, arith, cond, cover_value, eq-eqb, eqb-true, false, folded_value, get_or, get_or_append_left, get_or_from_slice_get, get_or_push, length, length_push, map, map_more, map_push, node_value, node_values, nodes_with, not, option_map, refl, same_Some, signal_value, signal_with, slice_get, slice_get-map, slice_get_within, source_value, subst, sum_by, sum_by_push, sym, take, true, weight_at, weight_of_folded, weight_of_rows, zero-add, ℕ, ⊎_elim, ⊤, ◌++◌, ◌+◌, ◌<◌, ◌==◌, ◌∙◌, ◌∷◌, ◌≡◌, ◌≤◌, ◌⊎◌}
 
 -- ---- one node more
 

@@ -1,16 +1,5 @@
 -- The network of all nodes that the covers of a model fold into.
-use Rattle.std.proofs.Common.{◌≡◌, ℕ, ◌≤◌, Bool, Option, Some, List, [], length, map, sym, ◌∙◌, arith}
-use Rattle.std.specs.Prelude.{All, IsSome}
-use Rattle.ncl_graph.specs.Graph.{IsOrder}
-use Rattle.ncl_blif.specs.Meaning.{Gives}
-use Rattle.ncl_blif.specs.Model.{IsModel}
-use Rattle.ncl_blif.specs.Dependence.{dependency_graph}
-use Rattle.ncl_blif.specs.declared.model.Model.{Model}
-use Rattle.ncl_network.specs.declared.network.Signal.{Signal}
-use Rattle.ncl_network.specs.declared.network.Node.{Node}
-use Rattle.ncl_network.specs.Network.{signal_value, node_values, weight_of_network, weight_of_model, IsSource}
-use Rattle.ncl_network.specs.Walk.{IsWalked}
-use Rattle.ncl_network.specs.Prune.{IsInOrder}
+use Rattle.ncl_network.proofs.Terms.{All, Bool, Gives, IsInOrder, IsModel, IsOrder, IsSome, IsSource, IsWalked, List, Model, Node, Option, Signal, Some, [], arith, dependency_graph, length, map, node_values, signal_value, sym, weight_of_model, weight_of_network, ℕ, ◌∙◌, ◌≡◌, ◌≤◌}
 use Rattle.ncl_network.proofs.Walking.{found_all, found_bits}
 use Rattle.ncl_network.proofs.CoverOrder.{covers_few, done_weight, all_known, length-order, places-order}
 

@@ -1,12 +1,5 @@
 -- Nodes that wait for all that they read.
-use Rattle.std.proofs.Common.{[], map, inl, inr}
-use Rattle.ncl_base.proofs.Members.{slice_get-from_Contains}
-use Rattle.ncl_network.specs.declared.network.SignalSource.{SignalSource}
-use Rattle.ncl_network.specs.declared.network.Network.{Network}
-use Rattle.ncl_cells.specs.Cones.{signal_in}
-use Rattle.ncl_template.proofs.WaitsLaws.{waits_at-all}
-use Rattle.ncl_rails.specs.Complete.{SourceReaches, output, reader, IsComplete}
-use Rattle.ncl_rails.specs.Waiting.{value_at, IsHeld, IsCovered, waits_of}
+use Rattle.ncl_rails.proofs.Terms.{IsComplete, IsCovered, IsHeld, Network, SignalSource, SourceReaches, [], inl, inr, map, output, reader, signal_in, slice_get-from_Contains, value_at, waits_at-all, waits_of}
 
 held : (network : Network) (source : SignalSource) → SourceReaches network source → IsHeld network (waits_of []) source
 held network _ (output source signal m is) = inl (record { signal = signal; given = m; is = is })

@@ -1,33 +1,7 @@
 -- What the pairs of a network show that is laid out, and what waits for what.
-use Rattle.std.proofs.Common.{◌≡◌, ℕ, suc, ◌+◌, ◌<◌, Bool, true, false, List, [], ◌∷◌, ◌++◌, length, map, Some, inl, inr, refl, sym, ap, subst, ◌∙◌, arith}
-use Rattle.std.specs.Prelude.{All, slice_get}
-use Rattle.std.specs.Option.{option_map}
-use Rattle.std.specs.List.{list_all, slice_index_or}
-use Rattle.std.proofs.lemmas.Bool.{cases_lt}
-use Rattle.std.proofs.lemmas.List.{get_or_append_left, get_or_push, length_push}
-use Rattle.std.proofs.lemmas.List.Elements.{All-head, All-tail}
-use Rattle.std.proofs.lemmas.Option.{get_or_from_slice_get, slice_get_within, slice_get-map}
-use Rattle.ncl_base.proofs.Members.{Member, Member-map, Contains-from_Member, Member-from_Contains, slice_get-from_Contains, slice_get-some}
-use Rattle.ncl_base.proofs.Tests.{All-at}
-use Rattle.ncl_base.proofs.Joined.{member_of_flat_map}
-use Rattle.ncl_shape.specs.declared.rails.Rails.{Rails}
-use Rattle.ncl_shape.specs.declared.stage.StageCell.{StageCell}
-use Rattle.ncl_shape.specs.Nets.{Nets, IsBelow}
-use Rattle.ncl_shape.specs.Stage.{out_of}
-use Rattle.ncl_faults.specs.Values.{holds}
-use Rattle.ncl_faults.specs.Faults.{has_data}
-use Rattle.ncl_network.specs.declared.network.SignalSource.{SignalSource}
-use Rattle.ncl_network.specs.declared.network.SignalSource.TheVariants.{Input, Node as FromNode, Const}
-use Rattle.ncl_network.specs.declared.network.Signal.{Signal}
-use Rattle.ncl_network.specs.declared.network.Node.{Node}
-use Rattle.ncl_network.specs.declared.network.Network.{Network}
-use Rattle.ncl_network.specs.Network.{IsSource, ReadBefore, is_constant, source_value, signal_value, node_value, node_values, answer_of}
-use Rattle.ncl_network.proofs.Walking.{IsSource-more}
-use Rattle.ncl_template.specs.Template.{Shows, IsNull, ShowWord, Obeys, IsCase}
-use Rattle.ncl_rails.specs.Complete.{IsComplete}
-use Rattle.ncl_rails.specs.Waiting.{value_at, IsCovered, Reaches, output, waiter}
+use Rattle.ncl_rails.proofs.Terms.{All, All-at, All-head, All-tail, AreLaidOut, Bool, Const, Contains-from_Member, FromNode, Input, IsBelow, IsCase, IsComplete, IsCovered, IsNull, IsSource, IsSource-more, List, Member, Member-from_Contains, Member-map, Nets, Network, Node, Obeys, Rails, Reaches, ReadBefore, ShowWord, Shows, Signal, SignalSource, Some, StageCell, [], answer_of, ap, arith, cases_lt, false, get_or_append_left, get_or_from_slice_get, get_or_push, has_data, holds, inl, inr, is_constant, length, length_push, list_all, map, member_of_flat_map, no_rails, node_value, node_values, option_map, out_of, refl, signal_pair, signal_value, slice_get, slice_get-from_Contains, slice_get-map, slice_get-some, slice_get_within, slice_index_or, source_pair, source_value, subst, suc, sym, true, value_at, waiter, ℕ, ◌++◌, ◌+◌, ◌<◌, ◌∙◌, ◌∷◌, ◌≡◌}
+use Rattle.ncl_rails.specs.Waiting.{output}
 use Rattle.ncl_rails.proofs.Covering.{reads_before_at, node_reaches}
-use Rattle.ncl_rails.specs.Layout.{AreLaidOut, no_rails, source_pair, signal_pair}
 use Rattle.ncl_rails.proofs.Lists.{list_all-fails}
 use Rattle.ncl_rails.proofs.Showing.{Shows-turned, IsNull-turned, null_has_none}
 

@@ -1,14 +1,6 @@
 -- Where each source is held, an output waits for it at each word.
-use Rattle.std.proofs.Common.{◌≡◌, ℕ, zero, suc, ◌+◌, ◌<◌, ◌≤◌, Bool, List, [], ◌∷◌, length, Some, inl, inr, subst, arith}
-use Rattle.std.specs.Prelude.{All, slice_get}
-use Rattle.std.proofs.lemmas.Option.{slice_get_within}
-use Rattle.ncl_base.proofs.Tests.{All-at}
-use Rattle.ncl_network.specs.declared.network.SignalSource.TheVariants.{Input, Node as FromNode}
-use Rattle.ncl_network.specs.declared.network.Signal.{Signal}
-use Rattle.ncl_network.specs.declared.network.Node.{Node}
-use Rattle.ncl_network.specs.declared.network.Network.{Network}
-use Rattle.ncl_network.specs.Network.{IsSource, ReadBefore}
-use Rattle.ncl_rails.specs.Waiting.{value_at, IsAwaited, IsCovered, Reaches, output, waiter}
+use Rattle.ncl_rails.proofs.Terms.{All, All-at, Bool, FromNode, Input, IsAwaited, IsCovered, IsSource, List, Network, Node, Reaches, ReadBefore, Signal, Some, [], arith, inl, inr, length, slice_get, slice_get_within, subst, suc, value_at, waiter, zero, ℕ, ◌+◌, ◌<◌, ◌∷◌, ◌≡◌, ◌≤◌}
+use Rattle.ncl_rails.specs.Waiting.{output}
 
 -- what a node reads is there before it, and so among all
 pub reads_before_at : (inputs place : ℕ) (nodes : List Node) → ReadBefore inputs place nodes → (k : ℕ) (node : Node) → slice_get nodes k ≡ Some node → All (λ (signal : Signal). IsSource inputs (place + k) signal.from) node.ins

@@ -1,24 +1,5 @@
 -- Names that differ: those of gates, of the nets that they drive, and of inputs.
-use Rattle.std.proofs.Common.{◌≡◌, ◌≢◌, ℕ, ◌+◌, ◌-◌, ◌*◌, ◌<◌, ◌≤◌, List, ◌∷◌, ◌++◌, length, map, get_or, Some, inl, inr, refl, sym, ap, subst, ◌∙◌, arith, length-append}
-use Rattle.std.specs.Prelude.{AllPairs, slice_get}
-use Rattle.std.proofs.lemmas.Bool.{cases_lt}
-use Rattle.std.proofs.lemmas.Bool.Decides.{Decides-eqb}
-use Rattle.std.proofs.lemmas.Map.Made.{IsDistinct-from_AllPairs, AllPairs-from_IsDistinct}
-use Rattle.std.proofs.lemmas.Slice.Eq.{slice_eq-Decides}
-use Rattle.std.proofs.lemmas.List.{length-map, get_or-map, get_or_append_left, get_or-append_right}
-use Rattle.std.proofs.lemmas.Option.{get_or_from_slice_get}
-use Rattle.ncl_base.proofs.Members.{Member, Member-get_or, member_of_map, Contains-from_Member, slice_get-some, slice_get-from_Contains}
-use Rattle.ncl_netlist.specs.declared.parts.NamePair.{NamePair}
-use Rattle.ncl_netlist.specs.declared.parts.PartCell.{PartCell}
-use Rattle.ncl_netlist.specs.Names.{same_name, AllDiffer}
-use Rattle.ncl_netlist.specs.Parts.{output_name}
-use Rattle.ncl_shape.specs.declared.stage.StageCell.{StageCell}
-use Rattle.ncl_tree.specs.Gates.{GatesData, AreNumbered}
-use Rattle.ncl_tree.specs.NamePairs.{pair_names, IsFreeOf}
-use Rattle.ncl_tree.specs.PartNames.{IsPartName, most_parts, digits_36, cell_name_of, net_name_of}
-use Rattle.ncl_tree.proofs.PartNameLaws.{same_cell, same_net, cell_is_no_net, cell_name-IsPartName, net_name-IsPartName}
-use Rattle.ncl_rails.specs.Named.{part_of_gate}
-use Rattle.ncl_rails.specs.Naming.{names_known}
+use Rattle.ncl_rails.proofs.Terms.{AllDiffer, AllPairs, AllPairs-from_IsDistinct, AreNumbered, Contains-from_Member, Decides-eqb, GatesData, IsDistinct-from_AllPairs, IsFreeOf, IsPartName, List, Member, Member-get_or, NamePair, PartCell, Some, StageCell, ap, arith, cases_lt, cell_is_no_net, cell_name-IsPartName, cell_name_of, digits_36, get_or, get_or-append_right, get_or-map, get_or_append_left, get_or_from_slice_get, inl, inr, length, length-append, length-map, map, member_of_map, most_parts, names_known, net_name-IsPartName, net_name_of, output_name, pair_names, part_of_gate, refl, same_cell, same_name, same_net, slice_eq-Decides, slice_get, slice_get-from_Contains, slice_get-some, subst, sym, ℕ, ◌*◌, ◌++◌, ◌+◌, ◌-◌, ◌<◌, ◌∙◌, ◌∷◌, ◌≡◌, ◌≢◌, ◌≤◌}
 use Rattle.ncl_rails.proofs.NetNames.{length-pair_names, made_name}
 use Rattle.ncl_rails.proofs.GateNames.{gate_output}
 

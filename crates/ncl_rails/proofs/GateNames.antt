@@ -1,27 +1,5 @@
 -- Gates by names: their pins, the names that they know, and the names of cells and nets.
-use Rattle.std.proofs.Common.{◌≡◌, ℕ, zero, suc, ◌+◌, ◌-◌, ◌*◌, ◌<◌, ◌≤◌, List, [], ◌∷◌, ◌++◌, length, map, take, inl, inr, refl, sym, ap, subst, ◌∙◌, arith}
-use Rattle.std.specs.Prelude.{All, Contains}
-use Rattle.std.specs.List.{range_with_len, slice_index_or}
-use Rattle.std.proofs.lemmas.List.{length-map, map-append, length_push}
-use Rattle.std.proofs.lemmas.Option.{slice_get_within}
-use Rattle.ncl_base.proofs.Members.{Member, here, there, Member-map, member_of_map, Member-append_cases, Contains-from_Member, Member-from_Contains, All-from_members, slice_get-from_Contains}
-use Rattle.ncl_base.proofs.Growing.{split_at}
-use Rattle.ncl_gates.specs.Gate.{arity_of}
-use Rattle.ncl_gates.proofs.PinLaws.{pins_of-gate}
-use Rattle.ncl_netlist.specs.declared.ids.NetId.{NetId}
-use Rattle.ncl_netlist.specs.declared.parts.NamePair.{NamePair}
-use Rattle.ncl_netlist.specs.declared.parts.PartCell.{PartCell}
-use Rattle.ncl_netlist.specs.Parts.{HasAllPins, input_names, output_name}
-use Rattle.ncl_shape.specs.declared.rails.Rails.{Rails}
-use Rattle.ncl_shape.specs.declared.stage.StageCell.{StageCell}
-use Rattle.ncl_shape.specs.Stage.{IsInOrder, nets_of, rail_nets, out_of}
-use Rattle.ncl_tree.specs.Gates.{GatesData, AreNumbered}
-use Rattle.ncl_tree.specs.NamePairs.{pair_names}
-use Rattle.ncl_tree.specs.PartNames.{most_parts}
-use Rattle.ncl_rails.specs.Layout.{input_pair, input_pairs}
-use Rattle.ncl_rails.specs.Named.{name_of_net, name_of_pair, part_of_gate, IsNamed, CanBeNamed}
-use Rattle.ncl_rails.specs.Naming.{names_known}
-use Rattle.ncl_rails.specs.StageParts.{ReadsKnown}
+use Rattle.ncl_rails.proofs.Terms.{All, All-from_members, AreNumbered, CanBeNamed, Contains, Contains-from_Member, GatesData, HasAllPins, IsInOrder, IsNamed, List, Member, Member-append_cases, Member-from_Contains, Member-map, NamePair, NetId, PartCell, Rails, ReadsKnown, StageCell, [], ap, arith, arity_of, here, inl, input_names, input_pair, input_pairs, inr, length, length-map, length_push, map, map-append, member_of_map, most_parts, name_of_net, name_of_pair, names_known, nets_of, out_of, output_name, pair_names, part_of_gate, pins_of-gate, rail_nets, range_with_len, refl, slice_get-from_Contains, slice_get_within, slice_index_or, split_at, subst, suc, sym, take, there, zero, ℕ, ◌*◌, ◌++◌, ◌+◌, ◌-◌, ◌<◌, ◌∙◌, ◌∷◌, ◌≡◌, ◌≤◌}
 use Rattle.ncl_rails.proofs.Lists.{at_member, but_last, last_at, map_split}
 use Rattle.ncl_rails.proofs.Laying.{known_left}
 use Rattle.ncl_rails.proofs.NetNames.{pair_names-cons, inputs_named}

@@ -1,11 +1,5 @@
 -- Gates of a network with the same answers.
-use Rattle.std.proofs.Common.{◌+◌, ◌*◌, ◌≤◌, List, length, ◌∙◌, arith}
-use Rattle.ncl_shape.specs.declared.rails.Rails.{Rails}
-use Rattle.ncl_network.specs.declared.network.Network.{Network}
-use Rattle.ncl_decomp.specs.Split.{IsSplit, cost_of_network}
-use Rattle.ncl_tree.specs.Gates.{GatesData}
-use Rattle.ncl_cells.specs.Remade.{IsSameAs}
-use Rattle.ncl_rails.specs.GatesOf.{CanHaveGates, AreGatesOf}
+use Rattle.ncl_rails.proofs.Terms.{AreGatesOf, CanHaveGates, GatesData, IsSameAs, IsSplit, List, Network, Rails, arith, cost_of_network, length, ◌*◌, ◌+◌, ◌∙◌, ◌≤◌}
 use Rattle.ncl_rails.proofs.Replacing.{AnswersAs-then}
 
 pub IsSameAs-then : (network other made : Network) → IsSameAs network other → IsSameAs other made → IsSameAs network made

@@ -1,21 +1,5 @@
 -- Nodes that hold a source together, by the bits of what they read.
-use Rattle.std.proofs.Common.{◌≡◌, ℕ, zero, suc, ◌/◌, ◌^◌, ◌<◌, Bool, true, false, nat_eq, List, length, map, get_or, Some, refl, sym, ap, subst, ◌∙◌, arith}
-use Rattle.std.specs.Prelude.{slice_get}
-use Rattle.std.proofs.lemmas.Nat.Bits.{bit_at_lowest, bit_at-suc}
-use Rattle.std.proofs.lemmas.List.{get_or-map, length-map}
-use Rattle.std.proofs.lemmas.Option.{slice_get-get_or}
-use Rattle.ncl_gates.specs.Bits.{is_set}
-use Rattle.ncl_network.specs.declared.network.SignalSource.{SignalSource}
-use Rattle.ncl_network.specs.declared.network.SignalSource.TheVariants.{Input}
-use Rattle.ncl_network.specs.declared.network.Signal.{Signal}
-use Rattle.ncl_network.specs.declared.network.Node.{Node}
-use Rattle.ncl_network.specs.declared.network.Network.{Network}
-use Rattle.ncl_decomp.specs.Words.{word_of}
-use Rattle.ncl_decomp.proofs.EachWord.{at_each_word}
-use Rattle.ncl_cells.specs.Cones.{signal_in}
-use Rattle.ncl_template.specs.declared.waits.Waits.{Waits}
-use Rattle.ncl_template.specs.Waits.{waits_at, all_inputs}
-use Rattle.ncl_rails.specs.Waiting.{waits_of, HasBits, WaitsFor, IsAwaited}
+use Rattle.ncl_rails.proofs.Terms.{Bool, HasBits, Input, IsAwaited, List, Network, Node, Signal, SignalSource, Some, Waits, WaitsFor, all_inputs, ap, arith, at_each_word, bit_at-suc, bit_at_lowest, false, get_or, get_or-map, is_set, length, length-map, map, nat_eq, refl, signal_in, slice_get, slice_get-get_or, subst, suc, sym, true, waits_at, waits_of, word_of, zero, ℕ, ◌/◌, ◌<◌, ◌^◌, ◌∙◌, ◌≡◌}
 
 pub WaitsFor-at : (waits : ℕ → Bool) (ins : List Signal) (source : SignalSource) (k : ℕ) (d : Signal) → k < length ins → (get_or ins k d).from ≡ source → waits k ≡ true → WaitsFor waits ins source
 WaitsFor-at waits ins source k d lt is passes = record {

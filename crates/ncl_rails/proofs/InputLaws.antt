@@ -1,20 +1,6 @@
 -- The values of a stage at its inputs and its cells.
-use Rattle.std.proofs.Common.{◌≡◌, ◌≢◌, ℕ, zero, suc, Bool, true, false, not, List, [], ◌∷◌, ◌++◌, map, Some, inl, inr, refl, sym, ap, subst, ◌∙◌}
-use Rattle.std.specs.Prelude.{AllPairs, slice_get, nat_eq}
-use Rattle.std.proofs.lemmas.Bool.{and_parts, and_from, and_left, and_right, or_cases, or_left, or_right, eqb-true, eq-eqb, not_from_true, false_from_ne_true}
-use Rattle.ncl_shape.specs.declared.rails.Rails.{Rails}
-use Rattle.ncl_shape.specs.declared.stage.StageCell.{StageCell}
-use Rattle.ncl_shape.specs.Nets.{among}
-use Rattle.ncl_shape.specs.Stage.{StageData, IsStage, rail_nets, rail_of, named_rails, out_of}
-use Rattle.ncl_base.proofs.Members.{Member, here, there, Member-append_left, Member-from_Contains, Contains-from_slice_get}
-use Rattle.ncl_shape.proofs.RailLaws.{rails_within, own_rail}
-use Rattle.ncl_faults.specs.declared.variant.Variant.{Variant}
-use Rattle.ncl_faults.specs.declared.variant.Variant.TheVariants.{Base, Bit, Cell}
-use Rattle.ncl_faults.specs.Values.{holds, both_rails, output_net, val}
-use Rattle.ncl_faults.proofs.Apart.{parts-differ, right-differ, named-within}
-use Rattle.ncl_faults.proofs.ValueLaws.{val-rail, val-output}
-use Rattle.ncl_faults.proofs.OnePass.{among-from_member}
-use Rattle.ncl_template.specs.Template.{Shows, IsNull}
+use Rattle.ncl_rails.proofs.Terms.{AllPairs, Base, Bit, Bool, Cell, Contains-from_slice_get, IsNull, IsStage, List, Member, Member-append_left, Member-from_Contains, Rails, Shows, Some, StageCell, StageData, Variant, [], among, among-from_member, and_from, and_left, and_parts, and_right, ap, both_rails, eq-eqb, eqb-true, false, false_from_ne_true, here, holds, inl, inr, map, named-within, named_rails, not, not_from_true, or_cases, or_left, or_right, out_of, output_net, own_rail, parts-differ, rail_nets, rail_of, rails_within, refl, right-differ, slice_get, subst, suc, sym, there, true, val, val-output, val-rail, zero, ℕ, ◌++◌, ◌∙◌, ◌∷◌, ◌≡◌, ◌≢◌}
+use Rattle.std.specs.Prelude.{nat_eq}
 
 rail_within : (r : Rails) (inputs : List Rails) → Member r inputs → (b : Bool) → Member (rail_of r b) (rail_nets inputs)
 rail_within r inputs m true = (rails_within r m).1

@@ -1,23 +1,5 @@
 -- Which inputs a network reads, one step further.
-use Rattle.std.proofs.Common.{◌≡◌, ℕ, zero, suc, ◌+◌, ◌<◌, ◌≤◌, ◌||◌, Bool, true, false, not, cond, List, [], ◌∷◌, ◌++◌, length, map, get_or, replicate, refl, sym, ap, subst, ◌∙◌, arith, append-nil}
-use Rattle.std.specs.Prelude.{All, filter}
-use Rattle.std.specs.List.{range_with_len}
-use Rattle.std.proofs.lemmas.Bool.{cond-true, cond-false}
-use Rattle.std.proofs.lemmas.List.{map-append, length-map}
-use Rattle.std.proofs.lemmas.List.FromFn.{length-range_with_len}
-use Rattle.std.proofs.lemmas.List.Sums.{length-filter, count_by-le-length}
-use Rattle.ncl_base.proofs.Members.{Member, member_of_map, Member-map, Member-filter, All-from_members}
-use Rattle.std.proofs.lemmas.List.Elements.{All-weaker, filter-append}
-use Rattle.std.proofs.lemmas.Option.{slice_get-get_or}
-use Rattle.ncl_base.proofs.Ranges.{range_with_len-more, below_of_range, Member-range}
-use Rattle.ncl_network.specs.declared.network.SignalSource.{SignalSource}
-use Rattle.ncl_network.specs.declared.network.SignalSource.TheVariants.{Input, Node as FromNode, Const}
-use Rattle.ncl_network.specs.declared.network.Signal.{Signal}
-use Rattle.ncl_network.specs.declared.network.Node.{Node}
-use Rattle.ncl_network.specs.declared.network.Network.{Network}
-use Rattle.ncl_network.specs.Network.{IsSource, is_constant}
-use Rattle.ncl_decomp.specs.Splitting.{AreVarying}
-use Rattle.ncl_rails.specs.Complete.{IsVarying, IsInputBelow, input_signal, is_input_read, unread_signals}
+use Rattle.ncl_rails.proofs.Terms.{All, All-from_members, All-weaker, AreVarying, Bool, Const, FromNode, Input, IsInputBelow, IsSource, IsVarying, List, Member, Member-filter, Member-map, Member-range, Network, Node, Signal, SignalSource, [], ap, append-nil, arith, below_of_range, cond, cond-false, cond-true, count_by-le-length, false, filter, filter-append, get_or, input_signal, is_constant, is_input_read, length, length-filter, length-map, length-range_with_len, map, map-append, member_of_map, not, range_with_len, range_with_len-more, refl, replicate, slice_get-get_or, subst, suc, sym, true, unread_signals, zero, ℕ, ◌++◌, ◌+◌, ◌<◌, ◌||◌, ◌∙◌, ◌∷◌, ◌≡◌, ◌≤◌}
 use Rattle.ncl_rails.proofs.Lists.{filter_within}
 use Rattle.ncl_rails.proofs.Composition.{reads_at}
 

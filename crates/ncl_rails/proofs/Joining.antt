@@ -1,27 +1,5 @@
 -- Unread inputs are joined to the first output by nodes: a network becomes complete, and its answers stay.
-use Rattle.std.proofs.Common.{◌≡◌, ℕ, ◌+◌, ◌-◌, ◌*◌, ◌<◌, ◌≤◌, Bool, false, List, [], ◌∷◌, ◌++◌, length, map, get_or, set, drop, Some, inl, inr, refl, sym, ap, subst, ◌∙◌, arith, length-append, append_assoc, zero-add}
-use Rattle.std.specs.Prelude.{All, Contains, slice_get}
-use Rattle.std.proofs.lemmas.List.{get_or_push}
-use Rattle.std.proofs.lemmas.Bool.{cases_lt, cases_Bool}
-use Rattle.std.proofs.lemmas.List.Elements.{All-nil, All-cons, All-append}
-use Rattle.std.proofs.lemmas.List.Sums.{sum_by-append}
-use Rattle.ncl_base.proofs.Members.{Member, here, there, member_cases, Contains-from_Member, Member-from_Contains, All-from_members}
-use Rattle.ncl_base.proofs.Places.{slice_get-append_left, slice_get-append_right}
-use Rattle.ncl_network.specs.declared.network.SignalSource.{SignalSource}
-use Rattle.ncl_network.specs.declared.network.SignalSource.TheVariants.{Input, Node as FromNode}
-use Rattle.ncl_network.specs.declared.network.Signal.{Signal}
-use Rattle.ncl_network.specs.declared.network.Node.{Node}
-use Rattle.ncl_network.specs.declared.network.Network.{Network}
-use Rattle.ncl_network.specs.Network.{signal_value, node_value, node_values, answer_of, IsSource, ReadBefore, is_constant}
-use Rattle.ncl_network.proofs.Walking.{IsSource-more, length-node_values}
-use Rattle.ncl_decomp.specs.declared.pair.Joint.TheVariants.{Join}
-use Rattle.ncl_decomp.specs.Pairs.{pair_node, node_signal, NodeTree, AddsTree}
-use Rattle.ncl_decomp.specs.Split.{IsNarrow, cost_of_inputs, cost_of_network}
-use Rattle.ncl_decomp.proofs.Later.{node_values-append, signals_kept, ReadBefore-append}
-use Rattle.ncl_decomp.proofs.Pairs.{join_value, tree_nodes}
-use Rattle.ncl_decomp.proofs.Parts.{cost_of_pairs}
-use Rattle.ncl_decomp.proofs.Trees.{pair_narrow, IsTreeOver, tree_over}
-use Rattle.ncl_rails.specs.Complete.{SourceReaches, output, reader, IsVarying, IsComplete, AnswersAs, input_signal, is_input_read, unread_signals}
+use Rattle.ncl_rails.proofs.Terms.{AddsTree, All, All-append, All-cons, All-from_members, All-nil, AnswersAs, Bool, Contains, Contains-from_Member, FromNode, Input, IsComplete, IsNarrow, IsSource, IsSource-more, IsTreeOver, IsVarying, Join, List, Member, Member-from_Contains, Network, Node, NodeTree, ReadBefore, ReadBefore-append, Signal, SignalSource, Some, SourceReaches, [], answer_of, ap, append_assoc, arith, cases_Bool, cases_lt, cost_of_inputs, cost_of_network, cost_of_pairs, drop, false, get_or, get_or_push, here, inl, input_signal, inr, is_constant, is_input_read, join_value, length, length-append, length-node_values, map, member_cases, node_signal, node_value, node_values, node_values-append, output, pair_narrow, pair_node, reader, refl, set, signal_value, signals_kept, slice_get, slice_get-append_left, slice_get-append_right, subst, sum_by-append, sym, there, tree_nodes, tree_over, unread_signals, zero-add, ℕ, ◌*◌, ◌++◌, ◌+◌, ◌-◌, ◌<◌, ◌∙◌, ◌∷◌, ◌≡◌, ◌≤◌}
 use Rattle.ncl_rails.proofs.Lists.{at_member, cut_first, set_first}
 use Rattle.ncl_rails.proofs.Inputs.{unread_vary, unread_few, unread_has}
 use Rattle.ncl_rails.proofs.Reaching.{read_reaches, tree_reaches, tree_nodes_reach, tree_of_two}

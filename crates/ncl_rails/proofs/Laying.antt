@@ -1,36 +1,5 @@
 -- Nodes that are laid out, one node further.
-use Rattle.std.proofs.Common.{◌≡◌, ℕ, zero, suc, ◌+◌, ◌<◌, ◌≤◌, Bool, true, false, cond, List, [], ◌∷◌, ◌++◌, length, map, get_or, take, Some, inl, inr, refl, sym, ap, subst, ◌∙◌, arith, length-append, append_assoc, append-nil}
-use Rattle.std.specs.Prelude.{All, Contains, slice_get}
-use Rattle.std.specs.List.{flat_map}
-use Rattle.std.proofs.lemmas.Bool.{cases_lt}
-use Rattle.std.proofs.lemmas.List.{length_push, map-append, get_or_append_left, take_more, length-take-le}
-use Rattle.std.proofs.lemmas.List.FromFn.{length-map-range_with_len}
-use Rattle.std.proofs.lemmas.List.Concat.{flat_map-cons, flat_map-append}
-use Rattle.std.proofs.lemmas.List.Elements.{All-nil, All-append, All-head, All-tail}
-use Rattle.std.proofs.lemmas.List.Sums.{sum_by_push, sum_by-take-le}
-use Rattle.std.proofs.lemmas.Option.{slice_get_within, slice_get-get_or}
-use Rattle.ncl_base.proofs.Members.{Member, here, there, member_cases, member_of_map, Member-append_left, Member-append_right, Member-append_cases, Member-get_or, Contains-from_Member, Member-from_Contains, All-from_members}
-use Rattle.ncl_base.proofs.Places.{pushed_last}
-use Rattle.ncl_gates.specs.Gate.{arity_of}
-use Rattle.ncl_netlist.specs.declared.ids.NetId.{NetId}
-use Rattle.ncl_shape.specs.declared.rails.Rails.{Rails}
-use Rattle.ncl_shape.specs.declared.stage.StageCell.{StageCell}
-use Rattle.ncl_shape.specs.Stage.{IsInOrder, nets_of, rail_nets, out_of}
-use Rattle.ncl_network.specs.declared.network.SignalSource.{SignalSource}
-use Rattle.ncl_network.specs.declared.network.SignalSource.TheVariants.{Input, Node as FromNode, Const}
-use Rattle.ncl_network.specs.declared.network.Signal.{Signal}
-use Rattle.ncl_network.specs.declared.network.Node.{Node}
-use Rattle.ncl_network.specs.declared.network.Network.{Network}
-use Rattle.ncl_network.specs.Network.{IsSource, ReadBefore, is_constant}
-use Rattle.ncl_decomp.specs.Split.{IsNarrow, cost_of_inputs, cost_of_nodes}
-use Rattle.ncl_template.specs.Template.{node_function}
-use Rattle.ncl_template.specs.Among.{IsTemplateAmong, AddsAmong}
-use Rattle.ncl_template.proofs.AmongLaws.{among_more}
-use Rattle.ncl_rails.specs.Complete.{IsComplete}
-use Rattle.ncl_rails.specs.Layout.{AreLaidOut, input_pair, input_pairs, no_rails, source_pair, exchanged, signal_pair}
-use Rattle.ncl_shape.proofs.JoinedLists.{append_split}
-use Rattle.ncl_shape.proofs.RailLaws.{rails_within}
-use Rattle.ncl_faults.proofs.WiringLaws.{rail_nets-append}
+use Rattle.ncl_rails.proofs.Terms.{AddsAmong, All, All-append, All-from_members, All-head, All-nil, All-tail, AreLaidOut, Bool, Const, Contains, Contains-from_Member, FromNode, Input, IsComplete, IsInOrder, IsNarrow, IsSource, IsTemplateAmong, List, Member, Member-append_cases, Member-append_left, Member-append_right, Member-from_Contains, Member-get_or, NetId, Network, Node, Rails, ReadBefore, Signal, SignalSource, Some, StageCell, [], among_more, ap, append-nil, append_assoc, append_split, arith, arity_of, cases_lt, cond, cost_of_inputs, cost_of_nodes, exchanged, false, flat_map, flat_map-append, flat_map-cons, get_or, get_or_append_left, here, inl, input_pair, input_pairs, inr, is_constant, length, length-append, length-map-range_with_len, length-take-le, length_push, map, map-append, member_cases, member_of_map, nets_of, no_rails, node_function, out_of, pushed_last, rail_nets, rail_nets-append, rails_within, refl, signal_pair, slice_get, slice_get-get_or, slice_get_within, source_pair, subst, suc, sum_by-take-le, sum_by_push, sym, take, take_more, there, true, zero, ℕ, ◌++◌, ◌+◌, ◌<◌, ◌∙◌, ◌∷◌, ◌≡◌, ◌≤◌}
 use Rattle.ncl_rails.proofs.Lists.{at_member, stands_before}
 use Rattle.ncl_rails.proofs.Covering.{reads_before_at}
 use Rattle.ncl_rails.proofs.Composition.{reads_at}

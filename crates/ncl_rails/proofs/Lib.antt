@@ -1,3 +1,4 @@
+mod Terms
 pub mod Lists
 pub mod Showing
 pub mod InputLaws

@@ -1,11 +1,5 @@
 -- What holds at places and of members of lists, and tests over lists.
-use Rattle.std.proofs.Common.{◌≡◌, ℕ, zero, suc, ◌-◌, ◌<◌, Bool, false, List, [], ◌∷◌, ◌++◌, length, map, take, drop, get_or, set, Some, inl, inr, refl, sym, ap, subst, ◌∙◌, arith}
-use Rattle.std.specs.Prelude.{All, Contains, slice_get, filter}
-use Rattle.std.specs.List.{list_all, AllZip, slice_index_or}
-use Rattle.std.proofs.lemmas.Bool.{and_left, and_right, cases_Bool, cond-true, cond-false}
-use Rattle.std.proofs.lemmas.List.{length_push, get_or_push}
-use Rattle.std.proofs.Math.Seq.{take-append_seam}
-use Rattle.ncl_base.proofs.Members.{Member, here, there, member_cases}
+use Rattle.ncl_rails.proofs.Terms.{All, AllZip, Bool, Contains, List, Member, Some, [], and_left, and_right, ap, arith, cases_Bool, cond-false, cond-true, drop, false, filter, get_or, get_or_push, here, inl, inr, length, length_push, list_all, map, member_cases, refl, set, slice_get, slice_index_or, subst, suc, sym, take, take-append_seam, there, zero, ℕ, ◌++◌, ◌-◌, ◌<◌, ◌∙◌, ◌∷◌, ◌≡◌}
 
 pub at_member : {X : Type 0} (P : X → Type 0) (xs : List X) → All P xs → (x : X) → Contains xs x → P x
 at_member P xs all x (k, lt, at) = subst P at (all k x lt)

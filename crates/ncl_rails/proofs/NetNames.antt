@@ -1,20 +1,5 @@
 -- The names of nets, by the pairs of names that the inputs have.
-use Rattle.std.proofs.Common.{◌≡◌, ℕ, zero, suc, ◌+◌, ◌-◌, ◌*◌, ◌<◌, ◌≤◌, List, [], ◌∷◌, length, map, get_or, Some, refl, sym, ap, ◌∙◌, arith}
-use Rattle.std.specs.Prelude.{All, nat_lt, slice_get}
-use Rattle.std.specs.Option.{option_map}
-use Rattle.std.proofs.lemmas.Bool.{cond-true, cond-false, lt-ltb, le-ltb}
-use Rattle.std.proofs.lemmas.List.{length-map}
-use Rattle.std.proofs.lemmas.List.FromFn.{length-map-range_with_len, get_or-map-range_with_len}
-use Rattle.std.proofs.lemmas.Option.{same_Some, slice_get_within, slice_get-get_or, slice_get-map, get_or_from_slice_get}
-use Rattle.ncl_base.proofs.Lists.{same_from_lengths}
-use Rattle.std.proofs.lemmas.List.Concat.{flat_map-cons}
-use Rattle.ncl_netlist.specs.declared.parts.NamePair.{NamePair}
-use Rattle.ncl_tree.specs.PartNames.{net_name_of}
-use Rattle.ncl_tree.specs.NamePairs.{pair_list, pair_names}
-use Rattle.ncl_shape.specs.declared.rails.Rails.{Rails}
-use Rattle.ncl_shape.specs.Stage.{rail_nets}
-use Rattle.ncl_rails.specs.Layout.{input_pair, input_pairs}
-use Rattle.ncl_rails.specs.Named.{name_of_net, name_of_pair, IsNamed}
+use Rattle.ncl_rails.proofs.Terms.{All, IsNamed, List, NamePair, Rails, Some, [], ap, arith, cond-false, cond-true, flat_map-cons, get_or, get_or-map-range_with_len, get_or_from_slice_get, input_pair, input_pairs, le-ltb, length, length-map, length-map-range_with_len, lt-ltb, map, name_of_net, name_of_pair, nat_lt, net_name_of, option_map, pair_list, pair_names, rail_nets, refl, same_Some, same_from_lengths, slice_get, slice_get-get_or, slice_get-map, slice_get_within, suc, sym, zero, ℕ, ◌*◌, ◌+◌, ◌-◌, ◌<◌, ◌∙◌, ◌∷◌, ◌≡◌, ◌≤◌}
 
 pub pair_names-cons : (pair : NamePair) (ins : List NamePair) → pair_names (pair ∷ ins) ≡ pair.zero ∷ pair.one ∷ pair_names ins
 pair_names-cons pair ins = flat_map-cons pair_list pair ins

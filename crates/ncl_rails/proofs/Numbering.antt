@@ -1,27 +1,5 @@
 -- Where the names of gates are numbered, the gates are a stage of the same gates.
-use Rattle.std.proofs.Common.{◌≡◌, ◌≢◌, ℕ, ◌<◌, ◌≤◌, List, [], ◌∷◌, length, map, get_or, refl, sym, ap, subst, ◌∙◌, arith}
-use Rattle.std.specs.Prelude.{All, AllPairs, Contains}
-use Rattle.std.specs.List.{AllZip}
-use Rattle.std.proofs.lemmas.List.{length-map, get_or-map}
-use Rattle.ncl_base.specs.declared.word.TheConstants.{MOST_BITS}
-use Rattle.ncl_base.proofs.Members.{Member, Member-get_or, member_of_map, Contains-from_Member, Contains-from_slice_get, slice_get-from_Contains, All-from_members}
-use Rattle.ncl_base.proofs.Places.{AllZip-back}
-use Rattle.ncl_gates.specs.declared.kind.Kind.{Kind}
-use Rattle.ncl_gates.specs.declared.cell_kind.CellKind.{CellKind}
-use Rattle.ncl_gates.specs.declared.cell_kind.CellKind.TheVariants.{Gate}
-use Rattle.ncl_gates.specs.Gate.{arity_of}
-use Rattle.ncl_netlist.specs.declared.ids.NetId.{NetId}
-use Rattle.ncl_netlist.specs.declared.parts.NamePair.{NamePair}
-use Rattle.ncl_shape.specs.declared.rails.Rails.{Rails}
-use Rattle.ncl_shape.specs.declared.stage.StageCell.{StageCell}
-use Rattle.ncl_shape.specs.Stage.{StageData, IsStage, IsInOrder, nets_of, rail_nets}
-use Rattle.ncl_shape.specs.Renamed.{renamed_net, renamed_rails, IsRenamedCell}
-use Rattle.ncl_shape.proofs.ZippedLists.{zip_split}
-use Rattle.ncl_shape.proofs.RenamedNets.{rail_nets-renamed, nets-renamed, known-renamed}
-use Rattle.ncl_tree.specs.NamePairs.{pair_names}
-use Rattle.ncl_rails.specs.Layout.{input_pairs}
-use Rattle.ncl_rails.specs.Named.{name_of_net, name_of_pair, part_of_gate}
-use Rattle.ncl_rails.specs.Naming.{named_net, named_pair, IsNumbered, IsOneToOne, IsNumberedStage}
+use Rattle.ncl_rails.proofs.Terms.{All, All-from_members, AllPairs, AllZip, AllZip-back, CellKind, Contains, Contains-from_Member, Contains-from_slice_get, Gate, IsInOrder, IsNumbered, IsNumberedStage, IsOneToOne, IsRenamedCell, IsStage, Kind, List, MOST_BITS, Member, Member-get_or, NamePair, NetId, Rails, StageCell, StageData, [], ap, arith, arity_of, get_or, get_or-map, input_pairs, known-renamed, length, length-map, map, member_of_map, name_of_net, name_of_pair, named_net, named_pair, nets-renamed, nets_of, pair_names, part_of_gate, rail_nets, rail_nets-renamed, refl, renamed_net, renamed_rails, slice_get-from_Contains, subst, sym, zip_split, ℕ, ◌<◌, ◌∙◌, ◌∷◌, ◌≡◌, ◌≢◌, ◌≤◌}
 use Rattle.ncl_rails.proofs.Lists.{at_member}
 use Rattle.ncl_rails.proofs.NetNames.{inputs_named}
 use Rattle.ncl_rails.proofs.GateNames.{gate_inputs, gate_output}

@@ -1,19 +1,5 @@
 -- What reaches an output through a tree of nodes, and which inputs do.
-use Rattle.std.proofs.Common.{◌≡◌, ℕ, zero, suc, ◌+◌, ◌<◌, true, List, [], ◌∷◌, ◌++◌, length, Some, inl, inr, refl, sym, ap, subst, arith}
-use Rattle.std.specs.Prelude.{Contains, slice_get}
-use Rattle.std.proofs.lemmas.Bool.{or_cases, eqb-true}
-use Rattle.ncl_base.proofs.Members.{Member, here, there, Member-append_left, Member-append_right, Contains-from_Member, member_from_list_any, slice_get-from_Contains}
-use Rattle.std.proofs.lemmas.Option.{slice_get_within}
-use Rattle.ncl_network.specs.declared.network.SignalSource.{SignalSource}
-use Rattle.ncl_network.specs.declared.network.SignalSource.TheVariants.{Input, Node as FromNode, Const}
-use Rattle.ncl_network.specs.declared.network.Signal.{Signal}
-use Rattle.ncl_network.specs.declared.network.Node.{Node}
-use Rattle.ncl_network.specs.declared.network.Network.{Network}
-use Rattle.ncl_network.specs.Network.{ReachesOutput, output as is_output, reader as is_read}
-use Rattle.ncl_decomp.specs.declared.pair.Joint.{Joint}
-use Rattle.ncl_decomp.specs.Pairs.{pair_node, node_signal, NodeTree, one, more}
-use Rattle.ncl_decomp.proofs.Trees.{pair_ins}
-use Rattle.ncl_rails.specs.Complete.{SourceReaches, output, reader, is_input, is_among, is_input_read}
+use Rattle.ncl_rails.proofs.Terms.{Const, Contains, Contains-from_Member, FromNode, Input, Joint, List, Member, Member-append_left, Member-append_right, Network, Node, NodeTree, ReachesOutput, Signal, SignalSource, Some, SourceReaches, [], ap, arith, eqb-true, here, inl, inr, is_among, is_input, is_input_read, is_output, is_read, length, member_from_list_any, more, node_signal, one, or_cases, output, pair_ins, pair_node, reader, refl, slice_get, slice_get-from_Contains, slice_get_within, subst, suc, sym, there, true, zero, ℕ, ◌++◌, ◌+◌, ◌<◌, ◌∷◌, ◌≡◌}
 
 -- a node that reaches an output does so as a source
 pub source_reaches : (network : Network) (k : ℕ) → ReachesOutput network k → SourceReaches network (FromNode k)

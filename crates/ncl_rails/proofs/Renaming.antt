@@ -1,18 +1,5 @@
 -- Gates whose nets have other numbers: what values of the one show, values of the other do.
-use Rattle.std.proofs.Common.{◌≡◌, ℕ, zero, suc, Bool, true, false, ◌&&◌, List, [], ◌∷◌, map, Some, refl, ap, subst, ◌∙◌}
-use Rattle.std.specs.Prelude.{slice_get}
-use Rattle.std.specs.List.{list_all, AllZip}
-use Rattle.ncl_gates.specs.Gate.{set_of}
-use Rattle.ncl_netlist.specs.declared.ids.NetId.{NetId}
-use Rattle.ncl_shape.specs.declared.rails.Rails.{Rails}
-use Rattle.ncl_shape.specs.declared.stage.StageCell.{StageCell}
-use Rattle.ncl_shape.specs.Nets.{Nets}
-use Rattle.ncl_shape.specs.Stage.{StageData}
-use Rattle.ncl_shape.specs.Closure.{pin_values}
-use Rattle.ncl_shape.specs.Renamed.{renamed_net, renamed_rails, IsRenamedCell}
-use Rattle.ncl_faults.specs.Values.{holds}
-use Rattle.ncl_faults.specs.Faults.{has_data}
-use Rattle.ncl_template.specs.Template.{Shows, IsNull, ShowWord}
+use Rattle.ncl_rails.proofs.Terms.{AllZip, Bool, IsNull, IsRenamedCell, List, NetId, Nets, Rails, ShowWord, Shows, Some, StageCell, StageData, [], ap, false, has_data, holds, list_all, map, pin_values, refl, renamed_net, renamed_rails, set_of, slice_get, subst, suc, true, zero, ℕ, ◌&&◌, ◌∙◌, ◌∷◌, ◌≡◌}
 
 -- a stage of the same gates
 pub record IsRenamed (number : ℕ → ℕ) (ins : List Rails) (gates : List StageCell) (outs : List Rails) (s : StageData) : Type 0 where

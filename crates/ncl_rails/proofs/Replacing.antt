@@ -1,24 +1,5 @@
 -- Constant outputs become a node of value 1, inverted where the constant is 0.
-use Rattle.std.proofs.Common.{◌≡◌, ℕ, zero, suc, ◌+◌, ◌*◌, ◌<◌, ◌≤◌, Bool, true, false, not, if◌then◌else◌, List, [], ◌∷◌, ◌++◌, length, map, get_or, inl, inr, refl, sym, ap, subst, ◌∙◌, arith}
-use Rattle.std.specs.Prelude.{All, sum_by}
-use Rattle.std.specs.List.{list_any}
-use Rattle.std.proofs.lemmas.Bool.{both_ways, cases_Bool, cases_lt, cond-true, cond-false, false≢true}
-use Rattle.std.proofs.lemmas.List.{get_or_push, length-map, length_push}
-use Rattle.std.proofs.lemmas.List.Elements.{All-nil, All-cons, All-head, All-tail, All-push, All-map}
-use Rattle.std.proofs.lemmas.List.Sums.{sum_by_push, sum_by-cons}
-use Rattle.ncl_blif.specs.Meaning.{cover_value}
-use Rattle.ncl_blif.specs.declared.model.Lit.TheVariants.{Dash}
-use Rattle.ncl_base.proofs.Members.{Member, here, there, Member-map, member_from_list_any, list_any-from_member, Contains-from_Member, Member-from_Contains, All-from_members}
-use Rattle.ncl_base.proofs.Places.{slice_get-append_left}
-use Rattle.ncl_network.specs.declared.network.SignalSource.{SignalSource}
-use Rattle.ncl_network.specs.declared.network.SignalSource.TheVariants.{Input, Node as FromNode, Const}
-use Rattle.ncl_network.specs.declared.network.Signal.{Signal}
-use Rattle.ncl_network.specs.declared.network.Node.{Node}
-use Rattle.ncl_network.specs.declared.network.Network.{Network}
-use Rattle.ncl_network.specs.Network.{signal_value, node_value, node_values, answer_of, IsSource, is_constant}
-use Rattle.ncl_network.proofs.Walking.{signal_value-more, IsSource-more, length-node_values, node_values-push, ReadBefore-push}
-use Rattle.ncl_decomp.specs.Split.{IsNarrow, IsSplit, cost_of_inputs, cost_of_nodes, cost_of_network, most_cost}
-use Rattle.ncl_rails.specs.Complete.{SourceReaches, output, reader, IsVarying, AnswersAs, input_signal, true_node, replaced}
+use Rattle.ncl_rails.proofs.Terms.{All, All-cons, All-from_members, All-head, All-map, All-nil, All-push, All-tail, AnswersAs, Bool, Const, Contains-from_Member, Dash, FromNode, Input, IsNarrow, IsSource, IsSource-more, IsSplit, IsVarying, List, Member, Member-from_Contains, Member-map, Network, Node, ReadBefore-push, Signal, SignalSource, SourceReaches, [], answer_of, ap, arith, both_ways, cases_Bool, cases_lt, cond-false, cond-true, cost_of_inputs, cost_of_network, cost_of_nodes, cover_value, false, false≢true, get_or, get_or_push, here, if◌then◌else◌, inl, input_signal, inr, is_constant, length, length-map, length-node_values, length_push, list_any, list_any-from_member, map, member_from_list_any, most_cost, node_value, node_values, node_values-push, not, output, reader, refl, replaced, signal_value, signal_value-more, slice_get-append_left, subst, suc, sum_by, sum_by-cons, sum_by_push, sym, there, true, true_node, zero, ℕ, ◌*◌, ◌++◌, ◌+◌, ◌<◌, ◌∙◌, ◌∷◌, ◌≡◌, ◌≤◌}
 use Rattle.ncl_rails.proofs.Lists.{at_member}
 use Rattle.ncl_rails.proofs.Reaching.{source_reaches}
 

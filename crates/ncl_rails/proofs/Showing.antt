@@ -1,11 +1,5 @@
 -- Pairs that show bits, and pairs that are NULL.
-use Rattle.std.proofs.Common.{◌≡◌, Bool, true, false, not, if◌then◌else◌}
-use Rattle.std.proofs.lemmas.Bool.{or_from, or_left, or_right, and_left, and_right}
-use Rattle.ncl_shape.specs.declared.rails.Rails.{Rails}
-use Rattle.ncl_shape.specs.Nets.{Nets}
-use Rattle.ncl_faults.specs.Faults.{has_data, is_illegal}
-use Rattle.ncl_template.specs.Template.{Shows, IsNull}
-use Rattle.ncl_rails.specs.Layout.{exchanged}
+use Rattle.ncl_rails.proofs.Terms.{Bool, IsNull, Nets, Rails, Shows, and_left, and_right, exchanged, false, has_data, if◌then◌else◌, is_illegal, not, or_from, or_left, or_right, true, ◌≡◌}
 
 Shows-exchanged : (v : Nets) (r : Rails) (b : Bool) → Shows v r b → Shows v (exchanged r) (not b)
 Shows-exchanged v r true shown = record { high = shown.high; low = shown.low }

@@ -1,36 +1,9 @@
 -- A stage of the gates of a complete network is sound, and gives its answers.
-use Rattle.std.proofs.Common.{◌≡◌, ℕ, ◌<◌, Bool, true, false, not, ◌&&◌, List, length, get_or, Option, Some, None, inl, inr, refl, sym, ap, subst, ◌∙◌, arith}
-use Rattle.std.specs.Prelude.{slice_get}
-use Rattle.std.specs.Option.{option_map}
-use Rattle.std.specs.List.{list_all, slice_index_or}
-use Rattle.std.proofs.lemmas.Bool.{and_left, and_right, cases_Bool, not_from_true}
-use Rattle.std.proofs.lemmas.List.{length-map}
-use Rattle.std.proofs.lemmas.Option.{slice_get_within, slice_get-get_or, slice_get-map}
-use Rattle.ncl_base.proofs.Members.{Member, Contains-from_Member, Member-from_Contains, Contains-from_slice_get, slice_get-from_Contains}
-use Rattle.ncl_base.proofs.Places.{AllZip-back}
-use Rattle.ncl_netlist.specs.declared.ids.NetId.{NetId}
-use Rattle.ncl_shape.specs.declared.rails.Rails.{Rails}
-use Rattle.ncl_shape.specs.declared.stage.StageCell.{StageCell}
-use Rattle.ncl_shape.specs.Nets.{Nets}
-use Rattle.ncl_shape.specs.Stage.{StageData, IsStage, out_of}
-use Rattle.ncl_faults.specs.declared.variant.Variant.{Variant}
-use Rattle.ncl_faults.specs.declared.variant.Variant.TheVariants.{Base, Bit, Cell}
-use Rattle.ncl_faults.specs.Values.{holds, val}
-use Rattle.ncl_faults.specs.Faults.{holds_at, has_data, is_illegal, all_data, IsWordOf, IsSound, BothRails, NoRail, Incomplete, Orphan}
-use Rattle.ncl_faults.proofs.ValueLaws.{val-below_base}
-use Rattle.ncl_network.specs.declared.network.SignalSource.{SignalSource}
-use Rattle.ncl_network.specs.declared.network.SignalSource.TheVariants.{Input}
-use Rattle.ncl_network.specs.declared.network.Network.{Network}
-use Rattle.ncl_network.specs.Network.{answer_of}
-use Rattle.ncl_template.specs.Template.{Shows, IsNull, ShowWord}
-use Rattle.ncl_rails.specs.Complete.{IsComplete}
-use Rattle.ncl_rails.specs.Waiting.{value_at, IsCovered, Reaches}
+use Rattle.ncl_rails.proofs.Terms.{AllZip-back, AreLaidOut, Base, Bit, Bool, BothRails, Cell, Contains-from_Member, Contains-from_slice_get, Incomplete, Input, IsComplete, IsCovered, IsNull, IsRenamedCell, IsSound, IsStage, IsWordOf, List, Member, Member-from_Contains, NetId, Nets, Network, NoRail, None, Option, Orphan, Rails, Reaches, ShowWord, Shows, SignalSource, Some, StageCell, StageData, Variant, all_data, and_left, and_right, answer_of, ap, arith, cases_Bool, false, get_or, has_data, holds, holds_at, inl, inr, is_illegal, length, length-map, list_all, no_rails, not, not_from_true, option_map, out_of, refl, renamed_rails, slice_get, slice_get-from_Contains, slice_get-get_or, slice_get-map, slice_get_within, slice_index_or, source_pair, subst, sym, true, val, val-below_base, value_at, ℕ, ◌&&◌, ◌<◌, ◌∙◌, ◌≡◌}
 use Rattle.ncl_rails.proofs.Covering.{input_reaches}
-use Rattle.ncl_rails.specs.Layout.{AreLaidOut, no_rails, source_pair}
 use Rattle.ncl_rails.proofs.Lists.{zip_at}
 use Rattle.ncl_rails.proofs.InputLaws.{input_shown, input_null, cell_low, base_obeys, variant_supported}
 use Rattle.ncl_rails.proofs.Showing.{shown_has_data, shown_is_legal}
-use Rattle.ncl_shape.specs.Renamed.{renamed_rails, IsRenamedCell}
 use Rattle.ncl_rails.proofs.Renaming.{IsRenamed, seen, shown_old, word_new, null_old, data_new, holds_new, shown_at}
 use Rattle.ncl_rails.proofs.Composition.{output_pairs, outputs_shown, null_reaches, low_gate_reaches}
 

@@ -1,36 +1,5 @@
 -- The parts of a stage that gates of a complete network make by names.
-use Rattle.std.proofs.Common.{◌≡◌, ◌≢◌, ℕ, ◌+◌, ◌*◌, ◌≤◌, Bool, List, length, map, refl, sym, ap, subst, ◌∙◌, arith}
-use Rattle.std.specs.Prelude.{All, AllPairs, Contains}
-use Rattle.std.proofs.lemmas.List.{length-map}
-use Rattle.std.proofs.lemmas.Simd.{map-map}
-use Rattle.std.proofs.lemmas.List.FromFn.{length-map-range_with_len}
-use Rattle.ncl_base.proofs.Members.{Member, member_of_map, Contains-from_Member, Member-from_Contains, All-from_members}
-use Rattle.ncl_gates.specs.declared.kind.Kind.{Kind}
-use Rattle.ncl_gates.specs.declared.cell_kind.CellKind.TheVariants.{Gate}
-use Rattle.ncl_gates.specs.Gate.{arity_of}
-use Rattle.ncl_netlist.specs.declared.parts.NamePair.{NamePair}
-use Rattle.ncl_netlist.specs.declared.parts.PartCell.{PartCell}
-use Rattle.ncl_netlist.specs.Parts.{HasAllPins, output_name}
-use Rattle.ncl_shape.specs.declared.rails.Rails.{Rails}
-use Rattle.ncl_shape.specs.declared.stage.StageCell.{StageCell}
-use Rattle.ncl_shape.specs.Stage.{StageData, IsStage, nets_of, rail_nets}
-use Rattle.ncl_faults.specs.declared.variant.Variant.TheVariants.{Base}
-use Rattle.ncl_faults.specs.Values.{val}
-use Rattle.ncl_faults.specs.Faults.{IsSound, IsWordOf}
-use Rattle.ncl_network.specs.declared.network.Signal.{Signal}
-use Rattle.ncl_network.specs.declared.network.Network.{Network}
-use Rattle.ncl_network.specs.Network.{IsSource, answer_of}
-use Rattle.ncl_decomp.specs.Split.{cost_of_network}
-use Rattle.ncl_tree.specs.Gates.{GatesData, AreNumbered}
-use Rattle.ncl_tree.specs.NamePairs.{pair_names}
-use Rattle.ncl_tree.specs.PartNames.{IsPartName, most_parts}
-use Rattle.ncl_rails.specs.declared.parts.StageParts.{StageParts}
-use Rattle.ncl_rails.specs.Complete.{IsComplete, AnswersAs}
-use Rattle.ncl_rails.specs.Waiting.{IsCovered}
-use Rattle.ncl_rails.specs.Layout.{IsLaidOut, input_pair, input_pairs, signal_pair}
-use Rattle.ncl_rails.specs.Named.{IsNamed, CanBeNamed, name_of_net, name_of_pair, part_of_gate}
-use Rattle.ncl_rails.specs.Naming.{names_known, IsNumberedStage}
-use Rattle.ncl_rails.specs.StageParts.{CanBeStage, AreStageParts}
+use Rattle.ncl_rails.proofs.Terms.{All, All-from_members, AllPairs, AnswersAs, AreNumbered, AreStageParts, Base, Bool, CanBeNamed, CanBeStage, Contains, Contains-from_Member, Gate, GatesData, HasAllPins, IsComplete, IsCovered, IsLaidOut, IsNamed, IsNumberedStage, IsPartName, IsSound, IsSource, IsStage, IsWordOf, Kind, List, Member, Member-from_Contains, NamePair, Network, PartCell, Rails, Signal, StageCell, StageData, StageParts, answer_of, ap, arith, arity_of, cost_of_network, input_pair, input_pairs, length, length-map, length-map-range_with_len, map, map-map, member_of_map, most_parts, name_of_net, name_of_pair, names_known, nets_of, output_name, pair_names, part_of_gate, rail_nets, refl, signal_pair, subst, sym, val, ℕ, ◌*◌, ◌+◌, ◌∙◌, ◌≡◌, ◌≢◌, ◌≤◌}
 use Rattle.ncl_rails.proofs.Lists.{at_member}
 use Rattle.ncl_rails.proofs.Laying.{signals_known, rail_known}
 use Rattle.ncl_rails.proofs.GateNames.{gate_pins, known_named, reads_known, pairs_known_named, net_below, can_be_named}

@@ -1,15 +1,6 @@
 -- What follows from how a call ended.
-use Rattle.std.proofs.Common.{◌≡◌, ◌≤◌, ℕ, false, List, Some, sym, ◌∙◌, subst, arith}
-use Rattle.ncl_base.specs.Files.{Files, bytes_of, Grew}
-use Rattle.ncl_command.specs.Command.{Arguments, check}
-use Rattle.ncl_check.specs.Headline.{IsDelayInsensitiveText}
-use Rattle.ncl_reply.specs.Devices.{SourceState, SinkState, CameOut, whole, cut_short}
-use Rattle.ncl_reply.specs.Replies.{Gives}
+use Rattle.ncl_reach_top.proofs.Terms.{Arguments, Asks, CameOut, Files, Fixed, Gives, Grew, IsDelayInsensitiveText, IsReachAnswered, IsReachedFile, IsWrongForInput, List, Made, SaysReached, SinkState, Some, SourceState, accepted_by_status, arith, bytes_of, check, cut_short, false, no_memory, not_understood, read_failed, refused_by_status, replied, subst, sym, whole, ℕ, ◌∙◌, ◌≡◌, ◌≤◌}
 use Rattle.ncl_reply.specs.declared.reply.Reply.{Reply}
-use Rattle.ncl_reply.specs.declared.reply.Reply.TheVariants.{Made, Fixed}
-use Rattle.ncl_reply.proofs.Statuses.{accepted_by_status, refused_by_status}
-use Rattle.ncl_reach_top.specs.Reply.{IsWrongForInput}
-use Rattle.ncl_reach_top.specs.Answered.{Asks, IsReachedFile, SaysReached, not_understood, replied, read_failed, no_memory, IsReachAnswered}
 use Rattle.ncl_reach_top.proofs.Replies.{reach_works, reach_wrong}
 
 module _ (arguments : Arguments) (source source' : SourceState) (sink sink' : SinkState) (file : List ℕ) (limit wanted : ℕ) (low : wanted ≤ 1) (asks : Asks arguments file limit) where

@@ -1,3 +1,4 @@
+mod Terms
 pub mod Replies
 pub mod Ends
 mod Named

@@ -1,25 +1,5 @@
 -- A verdict that is shown names a cell of the netlist, if any, and so does the run that is told.
-use Rattle.std.proofs.Common.{Bool, List, [], ◌∷◌, Option, Some, subst}
-use Rattle.ncl_base.proofs.Members.{All-from_members}
-use Rattle.ncl_netlist.specs.declared.ids.CellId.{CellId}
-use Rattle.ncl_shape.specs.declared.item.Item.{Item}
-use Rattle.ncl_shape.specs.declared.item.Item.TheVariants.{Cell as Fire}
-use Rattle.ncl_shape.specs.Stage.{StageData}
-use Rattle.ncl_shape.specs.Pipeline.{PipelineData}
-use Rattle.ncl_shape.specs.Shape.{Shape}
-use Rattle.ncl_verdict.specs.declared.verdict.Verdict.{Verdict}
-use Rattle.ncl_verdict.proofs.NamedCell.{names_of_fault}
-use Rattle.ncl_lines.specs.VerdictText.{NamesCellOf}
-use Rattle.ncl_lines.proofs.NamedPlaces.{names_below}
-use Rattle.ncl_faults.specs.Faults.{StageFault}
-use Rattle.ncl_machine.specs.State.{reset}
-use Rattle.ncl_machine.specs.Run.{after}
-use Rattle.ncl_machine.proofs.EnabledItems.{item_in_range}
-use Rattle.ncl_lines.proofs.WrittenSteps.{run-in_range}
-use Rattle.ncl_refusal.specs.Breaks.{BreaksBy, illegal_output, stop_while_full, register_loses, gate_loses}
-use Rattle.ncl_reaching.specs.declared.breaking.WrongRun.{WrongRun}
-use Rattle.ncl_reaching.specs.Answers.{GoesWrongBy, IsShown}
-use Rattle.ncl_reach_top.specs.Reply.{NamesItemsOf}
+use Rattle.ncl_reach_top.proofs.Terms.{All-from_members, Bool, BreaksBy, CellId, Fire, GoesWrongBy, IsShown, Item, List, NamesCellOf, NamesItemsOf, Option, PipelineData, Shape, Some, StageData, StageFault, Verdict, WrongRun, [], after, gate_loses, illegal_output, item_in_range, names_below, names_of_fault, register_loses, reset, run-in_range, stop_while_full, subst, ◌∷◌}
 
 pub names_shown : (p : PipelineData) → Shape p.netlist p → (input : List Bool) (v : Verdict) → IsShown p input v → NamesCellOf p.netlist v
 names_shown p shape input v is = subst (NamesCellOf p.netlist) is.is (names_below p.netlist _ (names_of_fault p.netlist p shape _ is.stage is.at is.fault is.word))

@@ -1,20 +1,6 @@
 -- How the parts of a reply come to the whole.
-use Rattle.std.proofs.Common.{◌≡◌, ℕ, List, Result, Ok, Err, IfOk, refl, sym, subst}
-use Rattle.std.proofs.lemmas.Result.{IfOk-weaker}
-use Rattle.ncl_base.specs.declared.memory.Memory.{Memory}
-use Rattle.ncl_shape.specs.Pipeline.{PipelineData}
-use Rattle.ncl_shape.specs.Shape.{Shape}
-use Rattle.ncl_machine.specs.DelayInsensitive.{IsDelayInsensitive}
-use Rattle.ncl_verdict.proofs.Sound.{judgement-sound}
-use Rattle.ncl_insensitivity.proofs.Headline.{delay_insensitive}
-use Rattle.ncl_refusal.proofs.Exact.{reached-insensitive}
-use Rattle.ncl_reaching.proofs.ReachingLaws.{shown-sensitive}
-use Rattle.ncl_check.specs.declared.reply.Outcome.{Outcome}
-use Rattle.ncl_check.specs.declared.reply.Outcome.TheVariants.{Accepted, Refused, NoPipeline}
-use Rattle.ncl_check.specs.declared.reply.Reply.{Reply}
-use Rattle.ncl_check.specs.Headline.{IsDelayInsensitiveText}
-use Rattle.ncl_check.specs.Text.{IsPipelineText, IsRefusedText}
-use Rattle.ncl_reach_top.specs.Reply.{IsPipelineReply, never, sound, held, shown, past, IsReachReply, refused, replied, IsWrongFor, IsWrongForInput}
+use Rattle.ncl_reach_top.proofs.Terms.{Accepted, Err, IfOk, IfOk-weaker, IsDelayInsensitive, IsDelayInsensitiveText, IsPipelineReply, IsPipelineText, IsReachReply, IsRefusedText, IsWrongFor, IsWrongForInput, List, Memory, NoPipeline, Ok, Outcome, PipelineData, Refused, Reply, Result, Shape, delay_insensitive, held, judgement-sound, never, past, reached-insensitive, refl, refused, shown, shown-sensitive, sound, subst, sym, ℕ, ◌≡◌}
+use Rattle.ncl_reach_top.specs.Reply.{replied}
 
 -- the reply that tells why bytes are the text of no pipeline
 pub refused_reply : (limit : ℕ) (bytes : List ℕ) (r : Result Reply Memory) → IfOk r (λ reply. reply.outcome ≡ NoPipeline) → IfOk r (λ reply. IsRefusedText bytes reply.text.items) → IfOk r (λ reply. IsReachReply limit bytes reply.outcome reply.text.items)

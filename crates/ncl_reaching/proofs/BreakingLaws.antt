@@ -1,36 +1,7 @@
 -- What the runs of faults come to, by the items that were tried for them.
-use Rattle.std.proofs.Common.{◌≡◌, ◌≢◌, ℕ, ◌+◌, ◌<◌, Bool, true, false, ◌&&◌, List, [], ◌∷◌, ◌++◌, length, None, Some, refl, sym, ap, ◌∙◌, subst, arith}
-use Rattle.std.specs.Prelude.{All, get_or, slice_get}
-use Rattle.std.proofs.lemmas.Option.{slice_get_within, get_or_from_slice_get}
-use Rattle.ncl_base.proofs.Members.{slice_get-some}
-use Rattle.ncl_netlist.specs.declared.ids.CellId.{CellId}
-use Rattle.ncl_cell_rules.specs.CellOrder.{IsCellOrder}
-use Rattle.ncl_shape.specs.declared.bank.Bank.{Bank}
+use Rattle.ncl_reaching.proofs.Terms.{All, Bank, Base, Bool, BothRails, BreaksBy, BreaksIn, BringsFault, CellId, Fire, GoesToStop, InRange, Incomplete, IsCellOrder, IsLost, IsQuiet, IsRunFrom, Item, List, Loses, NoRail, None, Orphan, PipelineData, Shape, Some, StageCell, StageData, StageFault, State, Without, [], acknowledging, acknowledging-tried, after, all_data, ap, arith, bit-in_bank, bit-in_word, bit-lost, bit_at, both-breaks, brings, coming, coming-tried, enabled, false, gate-lost, get_or_from_slice_get, going, going-tried, happened, item_in_range, lacking, lacking-tried, length, no_cell, none-breaks, rail_id, reaching, reaching-tried, refl, register_cell, reset, slice_get, slice_get-some, slice_get_within, standing, subst, sym, tried, true, val, ℕ, ◌&&◌, ◌++◌, ◌+◌, ◌<◌, ◌∙◌, ◌∷◌, ◌≡◌, ◌≢◌}
+use Rattle.std.specs.Prelude.{get_or}
 use Rattle.ncl_shape.specs.declared.bank.Bit.{Bit}
-use Rattle.ncl_shape.specs.declared.item.Item.{Item}
-use Rattle.ncl_shape.specs.declared.item.Item.TheVariants.{Cell as Fire}
-use Rattle.ncl_shape.specs.declared.stage.StageCell.{StageCell}
-use Rattle.ncl_shape.specs.Stage.{StageData}
-use Rattle.ncl_shape.specs.Pipeline.{PipelineData}
-use Rattle.ncl_shape.specs.Shape.{Shape}
-use Rattle.ncl_faults.specs.declared.variant.Variant.TheVariants.{Base, Cell as Without}
-use Rattle.ncl_faults.specs.Values.{val}
-use Rattle.ncl_faults.specs.Faults.{StageFault, BothRails, NoRail, Incomplete, Orphan, all_data}
-use Rattle.ncl_machine.specs.Held.{InRange}
-use Rattle.ncl_machine.specs.State.{State, reset}
-use Rattle.ncl_machine.specs.Steps.{enabled}
-use Rattle.ncl_machine.specs.Run.{IsRunFrom, IsQuiet, after}
-use Rattle.ncl_machine.proofs.EnabledItems.{item_in_range}
-use Rattle.ncl_machine.proofs.NamedRails.{bit_at}
-use Rattle.ncl_hazard.specs.Schedule.{no_cell, reaching, coming, lacking, acknowledging, going}
-use Rattle.ncl_hazard.specs.Trying.{tried, happened, Loses}
-use Rattle.ncl_hazard.specs.Why.{brings}
-use Rattle.ncl_hazard.proofs.Found.{rail_id}
-use Rattle.ncl_hazard.proofs.ItemLaws.{acknowledging-tried, coming-tried, going-tried, lacking-tried, reaching-tried}
-use Rattle.ncl_refusal.specs.Breaks.{BreaksBy}
-use Rattle.ncl_refusal.proofs.Breaking.{IsLost, bit-in_bank, bit-in_word, bit-lost, both-breaks, gate-lost, none-breaks}
-use Rattle.ncl_refusal.proofs.Outputs.{standing}
-use Rattle.ncl_reaching.specs.Breaking.{BringsFault, BreaksIn, GoesToStop, register_cell}
 
 register-is : (x : Bit) (r : Bool) → register_cell x r ≡ rail_id x r
 register-is x true = refl

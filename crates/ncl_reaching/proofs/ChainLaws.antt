@@ -1,37 +1,7 @@
 -- The chain of the first stages of a pipeline: it is a stage, it makes of an input the word that the input brings, and its last
 -- stage shows in it what it shows at that word.
-use Rattle.std.proofs.Common.{◌≡◌, ℕ, zero, suc, ◌+◌, ◌*◌, ◌<◌, ◌≤◌, Bool, ◌||◌, List, ◌++◌, map, length, Some, refl, sym, ap, ◌∙◌, subst, inl, inr, arith}
-use Rattle.std.specs.Prelude.{All, slice_get}
-use Rattle.std.specs.List.{find}
-use Rattle.std.proofs.lemmas.List.{length-append, length-map}
-use Rattle.std.proofs.lemmas.Option.{slice_get_within}
-use Rattle.ncl_base.proofs.Members.{Member, Member-append_cases, All-from_members, slice_get-some}
-use Rattle.ncl_shape.specs.declared.rails.Rails.{Rails}
-use Rattle.ncl_shape.specs.declared.stage.StageCell.{StageCell}
-use Rattle.ncl_shape.specs.Stage.{StageData, IsStage, nets_of, out_of}
-use Rattle.ncl_shape.specs.Pipeline.{PipelineData}
-use Rattle.ncl_shape.specs.Shape.{Shape}
-use Rattle.ncl_cell_roles.specs.Layout.{Layout, IsLayoutOf, stage_nets}
-use Rattle.ncl_cell_roles.proofs.LaidOut.{laid_out}
-use Rattle.ncl_space.specs.Table.{words}
-use Rattle.ncl_space.proofs.TableLaws.{find-same}
-use Rattle.ncl_faults.specs.Faults.{StageFault, BothRails, NoRail, Incomplete, Orphan, shows}
-use Rattle.ncl_stage.specs.BitOrder.{words_by}
-use Rattle.ncl_stage.proofs.OrderLaws.{words_by-ascending}
-use Rattle.ncl_machine.specs.Composition.{stage_function}
-use Rattle.ncl_machine.specs.SoundAt.{IsSoundAt}
-use Rattle.ncl_insensitivity.proofs.Composition.{word_at}
-use Rattle.ncl_insensitivity.proofs.WiresPass.{wires-pass}
-use Rattle.ncl_insensitivity.proofs.WiresSound.{wires_sound}
-use Rattle.ncl_hazard.specs.Search.{ascending}
-use Rattle.ncl_hazard.specs.Why.{brings}
-use Rattle.ncl_hazard.proofs.Found.{word-brought}
-use Rattle.ncl_hazard.proofs.Handing.{IsOneRailed, one_railed, sound-one_railed}
-use Rattle.ncl_hazard.proofs.JoinedLaws.{stage-here}
-use Rattle.ncl_reaching.specs.Asking.{rail0_place, rail1_place, gate_place, inputs_of_chain, lesser, EndsWith, IsFaultOf}
-use Rattle.ncl_reaching.specs.Chain.{CanFollow, by_net, chain, followed, followed_by, followers}
-use Rattle.ncl_reaching.specs.Evaluating.{word_on}
-use Rattle.ncl_reaching.specs.Reaching.{AreSoundWhereReached, brings_fault, least_bringing}
+use Rattle.ncl_reaching.proofs.Terms.{All, All-from_members, AreSoundWhereReached, Bool, BothRails, CanFollow, EndsWith, Incomplete, IsFaultOf, IsLayoutOf, IsOneRailed, IsSoundAt, IsStage, Layout, List, Member, Member-append_cases, NoRail, Orphan, PipelineData, Rails, Shape, Some, StageCell, StageData, StageFault, ap, arith, ascending, brings, brings_fault, by_net, chain, find, find-same, followed, followed_by, followers, gate_place, inl, inputs_of_chain, inr, laid_out, least_bringing, length, length-map, lesser, map, nets_of, one_railed, out_of, rail0_place, rail1_place, refl, shows, slice_get, slice_get-some, slice_get_within, sound-one_railed, stage-here, stage_function, stage_nets, subst, suc, sym, wires-pass, wires_sound, word-brought, word_at, word_on, words, words_by, words_by-ascending, zero, ℕ, ◌*◌, ◌++◌, ◌+◌, ◌<◌, ◌||◌, ◌∙◌, ◌≡◌, ◌≤◌}
+use Rattle.std.proofs.lemmas.List.{length-append}
 use Rattle.ncl_reaching.proofs.Following.{by_nets-followed, followed-is_stage, followers-many, function-followed, nets-followed, one-followed, shows-both, shows-none, word-followed}
 use Rattle.ncl_reaching.proofs.Without.{shows-orphan, shows-incomplete}
 use Rattle.ncl_reaching.proofs.LeastOfTwo.{find-either}

@@ -1,18 +1,5 @@
 -- One pass over a table of nets gives it the values of a stage.
-use Rattle.std.proofs.Common.{◌≡◌, ℕ, zero, suc, ◌+◌, ◌<◌, Bool, true, false, ◌||◌, ◌&&◌, cond, List, [], ◌∷◌, ◌++◌, length, map, get_or, take, drop, set, replicate, inl, inr, refl, sym, ap, ◌∙◌, arith}
-use Rattle.std.proofs.Math.Path.{fun_ext}
-use Rattle.std.specs.Prelude.{nat_eq}
-use Rattle.std.proofs.lemmas.Bool.{cases_eq, eq-eqb, ne_eqb}
-use Rattle.std.proofs.lemmas.List.{drop_more, take_more, get_or-set_same, get_or-set_other}
-use Rattle.ncl_shape.specs.declared.rails.Rails.{Rails}
-use Rattle.ncl_shape.specs.declared.stage.StageCell.{StageCell}
-use Rattle.ncl_shape.specs.Nets.{Nets, among, with_net}
-use Rattle.ncl_shape.specs.Stage.{StageData, IsStage, named_rails, rail_of}
-use Rattle.ncl_faults.specs.declared.variant.Variant.TheVariants.{Base}
-use Rattle.ncl_faults.specs.Pass.{pass}
-use Rattle.ncl_faults.specs.Values.{holds, rises, val}
-use Rattle.ncl_faults.proofs.OnePass.{pass-val}
-use Rattle.ncl_reaching.specs.Evaluating.{none_low, value_in, word_on}
+use Rattle.ncl_reaching.proofs.Terms.{Base, Bool, IsStage, List, Nets, Rails, StageCell, StageData, [], among, ap, arith, cases_eq, cond, drop, drop_more, eq-eqb, false, fun_ext, get_or, get_or-set_other, get_or-set_same, holds, inl, inr, length, map, named_rails, nat_eq, ne_eqb, none_low, pass, pass-val, rail_of, refl, replicate, rises, set, suc, sym, take, take_more, true, val, value_in, with_net, word_on, zero, ℕ, ◌&&◌, ◌++◌, ◌+◌, ◌<◌, ◌||◌, ◌∙◌, ◌∷◌, ◌≡◌}
 
 -- a net that gets a value
 value_in-set : (values : List Bool) (i : ℕ) (value : Bool) → i < length values → (net : ℕ) → value_in (set values i value) net ≡ with_net (value_in values) i value net

@@ -1,10 +1,5 @@
 -- The least word that one of two tests passes is the lesser of those that each does.
-use Rattle.std.proofs.Common.{◌≡◌, ℕ, zero, suc, Bool, true, false, ◌||◌, List, [], ◌∷◌, Option, Some, None, if◌then◌else◌, refl, sym, ◌∙◌}
-use Rattle.std.specs.List.{find}
-use Rattle.std.specs.Option.{option_map, option_or}
-use Rattle.ncl_space.specs.Table.{words}
-use Rattle.ncl_space.proofs.TableLaws.{find-words}
-use Rattle.ncl_reaching.specs.Asking.{is_first, lesser}
+use Rattle.ncl_reaching.proofs.Terms.{Bool, List, None, Option, Some, [], false, find, find-words, if◌then◌else◌, is_first, lesser, option_map, option_or, refl, suc, sym, true, words, zero, ℕ, ◌||◌, ◌∙◌, ◌∷◌, ◌≡◌}
 
 -- behind a bit that both have
 behind : (b : Bool) (x y : Option (List Bool)) → option_map (λ w. b ∷ w) (lesser x y) ≡ lesser (option_map (λ w. b ∷ w) x) (option_map (λ w. b ∷ w) y)

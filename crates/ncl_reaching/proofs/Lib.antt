@@ -1,3 +1,4 @@
+mod Terms
 pub mod Following
 pub mod Without
 pub mod LeastOfTwo

@@ -1,10 +1,5 @@
 -- One bit's followers more, and one gate more.
-use Rattle.std.proofs.Common.{◌≡◌, ℕ, ◌+◌, ◌<◌, List, [], ◌∷◌, ◌++◌, length, map, get_or, take, refl, sym, ap, ◌∙◌, append_assoc, arith}
-use Rattle.std.proofs.lemmas.List.{take_more, length-take-le}
-use Rattle.std.proofs.lemmas.List.{map_more}
-use Rattle.ncl_shape.specs.declared.rails.Rails.{Rails}
-use Rattle.ncl_shape.specs.declared.stage.StageCell.{StageCell}
-use Rattle.ncl_reaching.specs.Chain.{by_net, follower, followers}
+use Rattle.ncl_reaching.proofs.Terms.{List, Rails, StageCell, [], ap, append_assoc, arith, by_net, follower, followers, get_or, length, length-take-le, map, map_more, refl, sym, take, take_more, ℕ, ◌++◌, ◌+◌, ◌<◌, ◌∙◌, ◌∷◌, ◌≡◌}
 
 followers-append : (outputs rails more others : List Rails) → length outputs ≡ length rails → followers (outputs ++ more) (rails ++ others) ≡ followers outputs rails ++ followers more others
 followers-append [] [] more others many = refl

@@ -1,29 +1,7 @@
 -- What is asked of a chain, and a space that is as it was.
-use Rattle.std.proofs.Common.{◌≡◌, ℕ, ◌<◌, Bool, false, List, [], ◌∷◌, map, length, Option, Some, None, refl, sym, ap, ◌∙◌}
-use Rattle.std.specs.Prelude.{option_and_then}
-use Rattle.std.specs.List.{flat_map}
-use Rattle.std.specs.Option.{option_map}
+use Rattle.ncl_reaching.proofs.Terms.{Base, Bool, BothRails, IsNew, IsOrderOf, IsPast, Keeps, List, NoRail, None, Option, RailFault, Rails, Restores, Shown, Some, SpaceData, StageData, StageFault, Variant, [], after_base, all_over, ap, ascending, below, distinct_beads, false, faults_of, first_at, first_of, first_rail_fault_by, first_shown, fits, flat_map, found_fault_by, inputs_of_chain, is_within, least_word_by, length, map, member-found, net_tables_by, nets_over, option_and_then, option_map, question_count, rail_fault, refl, shown_by, shows, sym, with_tables, words_by, words_by-length, ℕ, ◌<◌, ◌∙◌, ◌∷◌, ◌≡◌}
 use Rattle.std.specs.FinSet as set
-use Rattle.ncl_base.proofs.Members.{member-found}
-use Rattle.ncl_shape.specs.declared.rails.Rails.{Rails}
-use Rattle.ncl_shape.specs.Stage.{StageData}
-use Rattle.ncl_space.specs.Beads.{distinct_beads}
-use Rattle.ncl_space.specs.Space.{SpaceData, IsNew, Keeps, Restores, fits, is_within, with_tables}
-use Rattle.ncl_faults.specs.declared.variant.Variant.{Variant}
-use Rattle.ncl_faults.specs.declared.variant.Variant.TheVariants.{Base}
-use Rattle.ncl_faults.specs.Faults.{StageFault, BothRails, NoRail, shows}
-use Rattle.ncl_stage.specs.BitOrder.{IsOrderOf, words_by}
-use Rattle.ncl_stage.specs.LeastWords.{below, faults_of, first_of, least_word_by}
-use Rattle.ncl_stage.specs.StageTables.{net_tables_by}
-use Rattle.ncl_stage.proofs.OrderLaws.{words_by-length}
-use Rattle.ncl_complete.specs.declared.rail_fault.RailFault.{RailFault}
 use Rattle.ncl_complete.specs.declared.rail_fault.RailFault.TheVariants as rail
-use Rattle.ncl_complete.specs.RailFaults.{rail_fault, found_fault_by, first_rail_fault_by}
-use Rattle.ncl_verdict.specs.Judgement.{after_base}
-use Rattle.ncl_hazard.specs.Search.{ascending, question_count}
-use Rattle.ncl_hazard.proofs.SearchLaws.{nets_over, all_over}
-use Rattle.ncl_reaching.specs.Asking.{IsPast, inputs_of_chain}
-use Rattle.ncl_reaching.specs.Reaching.{Shown, first_at, first_shown, shown_by}
 
 pub fits-restored : (a b : SpaceData) (tables : List (List Bool)) → Restores a b → fits b tables ≡ fits a tables
 fits-restored a b tables back = λ i. is_within (back.keeps.limit i) (set.len (set.union (back.held i) (distinct_beads (back.keeps.width i) tables)))

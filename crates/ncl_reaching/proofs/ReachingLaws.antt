@@ -1,43 +1,6 @@
 -- What the first fault that inputs show says of all faults of a stage, and what an answer means.
-use Rattle.std.proofs.Common.{◌≡◌, ℕ, ◌+◌, ◌-◌, ◌<◌, ◌≤◌, Bool, true, false, not, ◌&&◌, List, [], ◌∷◌, map, length, Option, Some, None, ◌⊎◌, inl, inr, refl, sym, ap, ◌∙◌, subst, arith}
-use Rattle.std.specs.Prelude.{slice_get}
-use Rattle.std.specs.Option.{option_map}
-use Rattle.std.proofs.lemmas.Bool.{both_ways, cases_eq}
-use Rattle.std.proofs.lemmas.Option.{slice_get_within}
-use Rattle.ncl_base.proofs.Members.{Member, here, there, member_cases, Member-append_left, Member-append_right, Member-map, member_of_map, slice_get-some}
-use Rattle.ncl_base.proofs.Joined.{member_of_flat_map, Member-flat_map}
-use Rattle.ncl_base.proofs.Ranges.{below_of_range}
-use Rattle.ncl_base.proofs.Tests.{All-member, map-same}
-use Rattle.ncl_shape.specs.declared.rails.Rails.{Rails}
-use Rattle.ncl_shape.specs.declared.stage.StageCell.{StageCell}
-use Rattle.ncl_shape.specs.Stage.{StageData}
-use Rattle.ncl_shape.specs.Pipeline.{PipelineData}
-use Rattle.ncl_shape.specs.Shape.{Shape}
-use Rattle.ncl_space.specs.Table.{words}
-use Rattle.ncl_faults.specs.declared.variant.Variant.{Variant}
-use Rattle.ncl_faults.specs.declared.variant.Variant.TheVariants.{Base, Bit, Cell}
-use Rattle.ncl_faults.specs.Values.{val}
-use Rattle.ncl_faults.specs.Faults.{StageFault, BothRails, NoRail, Incomplete, Orphan, shows, holds_at, is_illegal, has_data, all_data}
-use Rattle.ncl_stage.specs.LeastWords.{below, faults_of, first_of}
-use Rattle.ncl_stage.proofs.OrderLaws.{Member-words_by, ascending-order, words-length, words_by-ascending}
-use Rattle.ncl_machine.specs.DelayInsensitive.{IsDelayInsensitive}
-use Rattle.ncl_machine.specs.SoundAt.{IsSoundAt}
-use Rattle.ncl_verdict.specs.declared.verdict.Verdict.{Verdict}
-use Rattle.ncl_verdict.specs.InSpace.{IsAfterBase}
-use Rattle.ncl_verdict.specs.Judgement.{verdict_of, variants, after_base, cell_number, file_order}
-use Rattle.ncl_verdict.proofs.FileOrder.{Member-file_order, after_base-within}
-use Rattle.ncl_verdict.proofs.Firsts.{find-none}
-use Rattle.ncl_verdict.proofs.Places.{Member-below, slice_get-cases}
-use Rattle.ncl_hazard.specs.Why.{brings}
-use Rattle.ncl_hazard.proofs.OrphanPlaces.{found-some, first-among}
-use Rattle.ncl_refusal.specs.Reached.{IsSoundWhereReached}
-use Rattle.ncl_refusal.specs.Told.{Tells, both_rails, no_rail, incomplete, orphan}
-use Rattle.ncl_refusal.proofs.Converse.{insensitive-reached}
-use Rattle.ncl_refusal.specs.Breaks.{BreaksBy}
-use Rattle.ncl_reaching.specs.declared.breaking.WrongRun.{WrongRun}
-use Rattle.ncl_reaching.specs.Answers.{IsShown, IsRunTold, GoesWrongBy}
-use Rattle.ncl_reaching.specs.Asking.{IsFaultOf}
-use Rattle.ncl_reaching.specs.Reaching.{AreSoundWhereReached, Inputs, Shown, brings_fault, first_at, first_reached, first_shown, least_bringing, shown_by}
+use Rattle.ncl_reaching.proofs.Terms.{All-member, AreSoundWhereReached, Base, Bit, Bool, BothRails, BreaksBy, Cell, GoesWrongBy, Incomplete, Inputs, IsAfterBase, IsDelayInsensitive, IsFaultOf, IsRunTold, IsShown, IsSoundAt, IsSoundWhereReached, List, Member, Member-append_left, Member-append_right, Member-below, Member-file_order, Member-flat_map, Member-map, Member-words_by, NoRail, None, Option, Orphan, PipelineData, Rails, Shape, Shown, Some, StageCell, StageData, StageFault, Tells, Variant, Verdict, WrongRun, [], after_base, after_base-within, all_data, ap, arith, ascending-order, below, below_of_range, both_ways, brings, brings_fault, cases_eq, cell_number, false, faults_of, file_order, find-none, first-among, first_at, first_of, first_reached, first_shown, found-some, has_data, here, holds_at, incomplete, inl, inr, insensitive-reached, is_illegal, least_bringing, length, map, map-same, member_cases, member_of_flat_map, member_of_map, no_rail, not, option_map, orphan, refl, shown_by, shows, slice_get, slice_get-cases, slice_get-some, slice_get_within, subst, sym, there, true, val, variants, verdict_of, words, words-length, words_by-ascending, ℕ, ◌&&◌, ◌+◌, ◌-◌, ◌<◌, ◌∙◌, ◌∷◌, ◌≡◌, ◌≤◌, ◌⊎◌}
+use Rattle.ncl_refusal.specs.Told.{both_rails}
 
 -- ---- firsts
 

@@ -1,28 +1,5 @@
 -- One stage more of a pipeline is asked.
-use Rattle.std.proofs.Common.{◌≡◌, ℕ, suc, ◌+◌, ◌-◌, ◌<◌, ◌≤◌, Bool, List, length, Option, Some, None, sym, ap, ◌∙◌, subst, arith}
-use Rattle.std.specs.Prelude.{All, slice_get}
-use Rattle.std.proofs.lemmas.Option.{slice_get_within}
-use Rattle.ncl_shape.specs.declared.rails.Rails.{Rails}
-use Rattle.ncl_shape.specs.Stage.{StageData, nets_of}
-use Rattle.ncl_shape.specs.Pipeline.{PipelineData}
-use Rattle.ncl_shape.specs.Shape.{Shape}
-use Rattle.ncl_cell_roles.proofs.LaidOut.{laid_out}
-use Rattle.ncl_faults.specs.declared.variant.Variant.{Variant}
-use Rattle.ncl_faults.specs.Faults.{StageFault, IsSound, shows}
-use Rattle.ncl_verdict.specs.declared.verdict.Verdict.{Verdict}
-use Rattle.ncl_verdict.specs.Judgement.{verdict_of}
-use Rattle.ncl_hazard.specs.Trying.{HasNoDataBank}
-use Rattle.ncl_hazard.specs.Search.{ascending, question_count}
-use Rattle.ncl_hazard.specs.Why.{brings}
-use Rattle.ncl_hazard.proofs.Found.{word-brought}
-use Rattle.ncl_hazard.proofs.Handing.{wide-at}
-use Rattle.ncl_reaching.specs.declared.reaching.Reached.{Reached}
-use Rattle.ncl_reaching.specs.Answers.{Answers, IsFaultShown, IsPastLimit, IsShown, Means}
-use Rattle.ncl_reaching.specs.Asking.{EndsWith, inputs_of_chain, IsFaultOf}
-use Rattle.ncl_reaching.specs.Breaking.{BringsFault}
-use Rattle.ncl_reaching.specs.Chain.{CanFollow, chain, followed, followed_by}
-use Rattle.ncl_reaching.specs.Evaluating.{word_on}
-use Rattle.ncl_reaching.specs.Reaching.{AreSoundWhereReached, Shown, first_reached, first_shown}
+use Rattle.ncl_reaching.proofs.Terms.{All, Answers, AreSoundWhereReached, Bool, BringsFault, CanFollow, EndsWith, HasNoDataBank, IsFaultOf, IsFaultShown, IsPastLimit, IsShown, IsSound, List, Means, None, Option, PipelineData, Rails, Reached, Shape, Shown, Some, StageData, StageFault, Variant, Verdict, ap, arith, ascending, brings, chain, first_reached, first_shown, followed, followed_by, inputs_of_chain, laid_out, length, nets_of, question_count, shows, slice_get, slice_get_within, subst, suc, sym, verdict_of, wide-at, word-brought, word_on, ℕ, ◌+◌, ◌-◌, ◌<◌, ◌∙◌, ◌≡◌, ◌≤◌}
 use Rattle.ncl_reaching.proofs.ChainLaws.{can-follow-here, ends-with, inputs-are, nets-within, whole-inputs, word-here}
 use Rattle.ncl_reaching.proofs.ReachingLaws.{brought-from_some, first-same, is-shown, number-is, run-as_told, shown-sensitive, sound-from_none, sound-more}
 

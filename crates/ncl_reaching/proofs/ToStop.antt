@@ -1,22 +1,5 @@
 -- A run goes on by all items in turn, until none of them happens.
-use Rattle.std.proofs.Common.{◌≡◌, ℕ, ◌+◌, false, List, [], ◌∷◌, ◌++◌, length, length-append, append_assoc, refl, sym, ap, ◌∙◌, subst, arith}
-use Rattle.std.proofs.lemmas.Bool.{both_ways, false_from_ne_true}
-use Rattle.std.proofs.lemmas.List.{append-nil}
-use Rattle.ncl_cell_rules.specs.CellOrder.{IsCellOrder}
-use Rattle.ncl_shape.specs.declared.item.Item.{Item}
-use Rattle.ncl_shape.specs.Pipeline.{PipelineData}
-use Rattle.ncl_shape.specs.Shape.{Shape}
-use Rattle.ncl_machine.specs.State.{State}
-use Rattle.ncl_machine.specs.Steps.{enabled}
-use Rattle.ncl_machine.specs.Run.{IsRunFrom, after}
-use Rattle.ncl_machine.proofs.EnabledItems.{item_in_range}
-use Rattle.ncl_insensitivity.proofs.RunLaws.{after-append}
-use Rattle.ncl_hazard.specs.Schedule.{all_items}
-use Rattle.ncl_hazard.specs.Trying.{tried, happened}
-use Rattle.ncl_hazard.proofs.ItemLaws.{all-named}
-use Rattle.ncl_hazard.proofs.Losing.{happened-run, happened-after, none-happens}
-use Rattle.ncl_hazard.proofs.Tries.{run-append}
-use Rattle.ncl_reaching.specs.Breaking.{GoesToStop}
+use Rattle.ncl_reaching.proofs.Terms.{GoesToStop, IsCellOrder, IsRunFrom, Item, List, PipelineData, Shape, State, [], after, after-append, all-named, all_items, ap, append-nil, append_assoc, arith, both_ways, enabled, false, false_from_ne_true, happened, happened-after, happened-run, item_in_range, length, length-append, none-happens, refl, run-append, subst, sym, tried, ℕ, ◌++◌, ◌+◌, ◌∙◌, ◌∷◌, ◌≡◌}
 
 -- a run goes on from a state to another
 pub record GoesOn (p : PipelineData) (start s : State) (before run : List Item) : Type 0 where

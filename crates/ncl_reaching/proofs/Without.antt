@@ -1,26 +1,6 @@
 -- A stage behind another shows an orphan where the back one does, and where the follower of one of a bit's rails is an orphan the
 -- back one doesn't wait for that bit.
-use Rattle.std.proofs.Common.{◌≡◌, ℕ, ◌+◌, ◌<◌, Bool, true, false, not, ◌&&◌, ◌||◌, List, ◌++◌, length, map, get_or, Some, refl, sym, ap, ◌∙◌, subst}
-use Rattle.std.specs.Prelude.{nat_eq, slice_get}
-use Rattle.std.proofs.lemmas.Bool.{ne_eqb, eqb-true, both_ways, false_from_ne_true, or_from}
-use Rattle.std.proofs.lemmas.Option.{slice_get-get_or}
-use Rattle.ncl_base.proofs.Members.{Member, Member-from_Contains, Contains-from_slice_get}
-use Rattle.ncl_base.proofs.Places.{slice_get-append_left, slice_get-append_right, at_map}
-use Rattle.ncl_shape.specs.declared.rails.Rails.{Rails}
-use Rattle.ncl_shape.specs.declared.stage.StageCell.{StageCell}
-use Rattle.ncl_shape.specs.Nets.{among}
-use Rattle.ncl_shape.specs.Stage.{StageData, nets_of, out_of, named_rails}
-use Rattle.ncl_cell_roles.specs.Layout.{no_rails, rail_at}
-use Rattle.ncl_cell_roles.proofs.RailNets.{rail-within}
-use Rattle.ncl_faults.specs.declared.variant.Variant.TheVariants.{Base, Bit, Cell}
-use Rattle.ncl_faults.specs.Values.{both_rails, kept_low, output_net, val}
-use Rattle.ncl_faults.specs.Faults.{Incomplete, Orphan, shows, holds_at, all_data}
-use Rattle.ncl_faults.proofs.OnePass.{among-from_member}
-use Rattle.ncl_faults.proofs.ValueLaws.{rail-no_output}
-use Rattle.ncl_machine.proofs.NamedRails.{bit_at, named-has, named-only}
-use Rattle.ncl_machine.proofs.StageNets.{rail-listed, gate-listed}
-use Rattle.ncl_hazard.proofs.Handing.{IsOneRailed}
-use Rattle.ncl_reaching.specs.Chain.{CanFollow, by_net, followed, followers}
+use Rattle.ncl_reaching.proofs.Terms.{Base, Bit, Bool, CanFollow, Cell, Contains-from_slice_get, Incomplete, IsOneRailed, List, Member, Member-from_Contains, Orphan, Rails, Some, StageCell, StageData, all_data, among, among-from_member, ap, at_map, bit_at, both_rails, both_ways, by_net, eqb-true, false, false_from_ne_true, followed, followers, gate-listed, get_or, holds_at, kept_low, length, map, named-has, named-only, named_rails, nat_eq, ne_eqb, nets_of, no_rails, not, or_from, out_of, output_net, rail-listed, rail-no_output, rail-within, rail_at, refl, shows, slice_get, slice_get-append_left, slice_get-append_right, slice_get-get_or, subst, sym, true, val, ℕ, ◌&&◌, ◌++◌, ◌+◌, ◌<◌, ◌||◌, ◌∙◌, ◌≡◌}
 use Rattle.ncl_reaching.proofs.Following.{made, made-wide, place_of, follower-at, base-values, rail-value, data-followed}
 
 swap : (a b : Bool) → (a && b) ≡ (b && a)

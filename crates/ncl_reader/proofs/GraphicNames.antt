@@ -1,5 +1,5 @@
 -- Names of a text are made of printing characters, and its cells have a net on each pin.
-pub use Rattle.ncl_reader.proofs.Terms.{[], ◌≡◌, ℕ, zero, suc, ◌+◌, ◌-◌, ◌<◌, ◌≤◌, ◌/◌, ◌%◌, arith, List, ◌∷◌, ◌++◌, length, map, take, Bool, true, false, Option, Some, None, not, refl, sym, ap, ◌∙◌, subst, append_assoc, unwrap_or, slice_range, codes, decimal, nat_lt, ◌==◌, All, if◌then◌else◌, digits_onto, digit_glyph, list_all, flat_map, find, AllByRecursion, option_map, bytes_eq, digits_value, nat_tests, and_parts, and_from, take_at, length-append, All-nil, All-cons, All-head, All-tail, All-append, All-filter, Token, TokenKind, begins_word, continues_word, is_graphic, IsToken, is_word, is_escaped, Stop, at_end, at_bad, name_of, IsTokenOf, tokens_in_text, pins_of, Port, Cell, Parts, PartCell, same_name, once_each, netlist_of, nets_of, port_names, cell_of, Keyword, EndModule, Module, Lexeme, Word, Name, End, lexemes, lexeme_of, word_lexeme, keyword_of, all_of, Range, Net, Conn, Item, Declares, Joins, text_phrase, body_phrase, header_of, Head, bit_name, span_of, Stands, Said, Joined, joined_in, bits_of, said_by, net_name, net_on, AreCellsOf, Reads, placed_in, IsGraphicName, HasGraphicNames, Member, here, there, Contains-from_Member, All-from_members, member_of_flat_map, ports_at, said_at, length-map, HasAllPins, with_commas, conn_phrase, item_phrase, row_phrase, head_phrase, Mark, Comma, RParen, Semi}
+pub use Rattle.ncl_reader.proofs.Terms.{[], ◌≡◌, ℕ, zero, suc, ◌+◌, ◌-◌, ◌<◌, ◌≤◌, ◌/◌, ◌%◌, arith, List, ◌∷◌, ◌++◌, length, map, take, Bool, true, false, Option, Some, None, not, refl, sym, ap, ◌∙◌, subst, append_assoc, unwrap_or, slice_range, codes, decimal, nat_lt, ◌==◌, All, if◌then◌else◌, digits_onto, digit_glyph, list_all, flat_map, find, AllByRecursion, option_map, bytes_eq, digits_value, nat_tests, and_parts, and_from, take_at, length-append, All-nil, All-cons, All-head, All-tail, All-append, All-filter, Token, TokenKind, begins_word, continues_word, is_graphic, IsToken, is_word, is_escaped, Stop, at_end, at_bad, name_of, IsTokenOf, tokens_in_text, pins_of, Port, Cell, Parts, PartCell, same_name, once_each, netlist_of, nets_of, port_names, cell_of, Keyword, EndModule, Lexeme, Word, Name, End, lexemes, lexeme_of, word_lexeme, keyword_of, Range, Net, Conn, Item, Declares, Joins, text_phrase, body_phrase, header_of, bit_name, span_of, Stands, Said, Joined, joined_in, bits_of, said_by, net_name, net_on, AreCellsOf, Reads, placed_in, IsGraphicName, HasGraphicNames, Member, Contains-from_Member, All-from_members, member_of_flat_map, ports_at, said_at, length-map, HasAllPins, with_commas, conn_phrase, item_phrase, row_phrase, head_phrase, Mark, Comma, RParen, Semi}
 use Rattle.std.specs.Fmt.{digits}
 use Rattle.ncl_reader.proofs.Ports.{alone, bit_of_map, names-ports, names_of, some-said}
 use Rattle.ncl_reader.proofs.SaidDeclared.{whole, header_stands}

@@ -1,5 +1,5 @@
 -- What is kept of names, with a token more.
-pub use Rattle.ncl_reader.proofs.Terms.{◌≡◌, ◌≢◌, MatchOption, ◌<◌, ℕ, List, [], ◌∷◌, ◌++◌, Option, Some, None, Bool, true, false, cond, inl, inr, ◌⊎◌, refl, sym, ap, ◌∙◌, subst, option_map, bytes_eq, same_Some, none-some, bytes_eq-Decides, Span, Ranges, Lexeme, Name, Range, IsDeclaring, span_of, IsDeclared, has_name, IsRanges, range_at, vector_at, kept_as, false≢true, NameSet, IsAtNet, IsUsed, IsUses, ◌+◌, arith, length, codes, decimal, length-append, Covers, bit_name, Stands, IsVector, IsBit, IsClear, Clashes, zero, suc, get_or, Contains, slice_index, Contains-append_left, Contains-append_right, Contains-append_cases, KeptBits, IsStanding, numbers_at, is_some, Known, Redeclares, KeepsNames, inside, opened, unwrap_or, rules, IfOk, btree_map_updates_str}
+pub use Rattle.ncl_reader.proofs.Terms.{◌≡◌, ◌≢◌, MatchOption, ◌<◌, ℕ, List, [], ◌∷◌, ◌++◌, Option, Some, None, Bool, true, false, cond, inl, inr, ◌⊎◌, refl, sym, ap, ◌∙◌, subst, option_map, bytes_eq, same_Some, none-some, bytes_eq-Decides, Span, Ranges, Lexeme, Name, Range, IsDeclaring, span_of, IsDeclared, has_name, IsRanges, range_at, vector_at, kept_as, false≢true, NameSet, IsAtNet, IsUsed, IsUses, ◌+◌, arith, length, codes, decimal, length-append, Covers, bit_name, Stands, IsVector, IsBit, IsClear, Clashes, Contains, slice_index, Contains-append_left, Contains-append_right, Contains-append_cases, KeptBits, IsStanding, numbers_at, is_some, Known, Redeclares, KeepsNames, inside, opened, unwrap_or, rules, IfOk, btree_map_updates_str}
 use Rattle.ncl_reader.proofs.Facts.{declared-more, declared-old, declaring-once, used-more, used-old, stands-more, stands-old, declaring-here, spans_or_not}
 pub use Rattle.ncl_reader.proofs.Steps.{no_token, name_in}
 use Rattle.ncl_reader.proofs.Bits.{bit_name-injective, at_default}

@@ -1,5 +1,5 @@
 -- The loop over tokens, and what is kept of what was read.
-pub use Rattle.ncl_reader.proofs.Terms.{[], ◌≡◌, ℕ, List, ◌∷◌, ◌++◌, None, inl, inr, ◌⊎◌, refl, sym, ap, ◌∙◌, subst, map-append, NetFault, Syntax, End, Bad, Placed, lexemes, Head, Item, text_phrase, Breaks, BreaksRule, NoneBreaks, IsFaultAt, IsRefusedAt, led, leading, Partial, start, heading, ended, done, inside, declaring, spelled, place_of, ◌<◌, length, arith, Parts, Place, Draft, ReadsTokens, listing, HoldsAt, Takes, SaysAt, ◌+◌, ◌≤◌, map, drop, append_assoc, Option, Some, Ok, Err, Result, slice_range, length-append, length-map, Token, IsSpace, AreTokens, TokensOf, IsNextToken, IsBadByte, Stop, at_end, at_bad, none_left, at_bad_byte, TokensData, IsAnswer, place_after, name_of, list_once, next_left, tokens_few, Memory, TokenFault, BadByte, Lexeme, lexeme_of, placed_of, stop_of, placed_in, IsLexed, Reads, IsRefused, IsReadFault, ◌-◌, some_list, meant, TakesOrBreaks}
+pub use Rattle.ncl_reader.proofs.Terms.{[], ◌≡◌, ℕ, List, ◌∷◌, ◌++◌, None, inl, inr, ◌⊎◌, refl, sym, ap, ◌∙◌, subst, map-append, NetFault, Syntax, End, Bad, Placed, lexemes, Head, Item, text_phrase, Breaks, BreaksRule, NoneBreaks, IsFaultAt, IsRefusedAt, led, leading, Partial, start, heading, ended, done, inside, declaring, spelled, place_of, ◌<◌, length, arith, Parts, Place, Draft, listing, HoldsAt, Takes, SaysAt, ◌+◌, ◌≤◌, map, drop, append_assoc, Option, Some, Ok, Err, Result, slice_range, length-append, length-map, Token, IsSpace, AreTokens, TokensOf, IsNextToken, IsBadByte, Stop, at_end, at_bad, none_left, at_bad_byte, TokensData, IsAnswer, place_after, name_of, list_once, next_left, tokens_few, Memory, TokenFault, BadByte, Lexeme, lexeme_of, placed_of, stop_of, placed_in, IsLexed, Reads, IsRefused, IsReadFault, ◌-◌, some_list, meant, TakesOrBreaks}
 use Rattle.ncl_reader.specs.declared.place.Place.TheVariants as place
 use Rattle.ncl_reader.proofs.Steps.{step, grows, breaks-untaken, breaks-taken, unbroken-more, no_token}
 

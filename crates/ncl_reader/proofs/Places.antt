@@ -1,5 +1,5 @@
 -- What may come next, by the form of what stands before it.
-pub use Rattle.ncl_reader.proofs.Terms.{◌≡◌, ◌≢◌, ℕ, List, [], Option, Some, None, false, inl, inr, ◌⊎◌, refl, sym, ap, ◌∙◌, subst, false≢true, Place, LeadPlace, Syntax, Unsupported, Lexeme, Name, Direction, Plain, Wired, Lead, Gives, Wires, Range, takes_name, LeadPart, led, ranged, lead_place, direction_place, word_place, leading, naming, going, Partial, listing, heading, at_item, inside, declaring, joining, dotted, opened, netted, indexing, joined, spelled, place_of, IsDeclaring, IsAtItem, IsAtConn, IsAtPin, IsAtNet, IsBehindNet, IsAtIndex, IsAtClose, Redeclares, Clashes, Crowds, IsLeftOut, IsFaultAt, Bool, Decides, option_map, same_Some, Span, Sign, RParen, LBracket, RBracket, Colon, Other, Keyword, EndModule, Mark, Word, span_of, true, all_of, direction_phrase, lead_phrase, in_ansi, at_declared, KeepsNames, HoldsAt, digits_value, cell_name_of, IsVector, Covers, not, ◌<◌, ◌++◌, Contains, none-some, header_of, MOST_PORT_BITS, directed_by, lead_output, LacksWay, said_by, is_output, said_with, flat_map, group_names, said_in_header, said_of}
+pub use Rattle.ncl_reader.proofs.Terms.{◌≡◌, ◌≢◌, ℕ, List, [], Option, Some, None, false, inl, inr, ◌⊎◌, refl, sym, ap, ◌∙◌, subst, false≢true, Place, LeadPlace, Syntax, Unsupported, Lexeme, Name, Direction, Plain, Wired, Lead, Gives, Wires, Range, takes_name, LeadPart, led, ranged, lead_place, direction_place, word_place, leading, going, Partial, listing, heading, at_item, inside, declaring, joining, dotted, opened, netted, indexing, joined, spelled, place_of, IsDeclaring, IsAtItem, IsAtConn, IsAtPin, IsAtNet, IsBehindNet, IsAtIndex, IsAtClose, Redeclares, Clashes, Crowds, IsLeftOut, IsFaultAt, Bool, Decides, option_map, same_Some, Span, Sign, RParen, LBracket, RBracket, Colon, Other, Keyword, EndModule, Mark, Word, span_of, true, all_of, direction_phrase, lead_phrase, in_ansi, at_declared, KeepsNames, HoldsAt, digits_value, cell_name_of, IsVector, Covers, not, ◌<◌, ◌++◌, Contains, none-some, header_of, MOST_PORT_BITS, directed_by, lead_output, LacksWay, said_by, is_output, said_with, flat_map, group_names, said_in_header, said_of}
 use Rattle.ncl_reader.specs.declared.place.Place.TheVariants as place
 use Rattle.ncl_reader.proofs.Steps.{same_tree}
 pub use Rattle.ncl_reader.proofs.Facts.{part_range, range_here, declaring_tree, declaring-here, at_part, heading_form, declaring_form}

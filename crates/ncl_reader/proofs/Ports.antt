@@ -1,5 +1,5 @@
 -- What a header keeps of a name, and its ports: those of a name, that they differ, and that they are few.
-pub use Rattle.ncl_reader.proofs.Terms.{◌≡◌, ℕ, arith, List, [], ◌∷◌, ◌++◌, Bool, true, false, not, cond, subst, Option, Some, None, inl, inr, refl, sym, ap, ◌∙◌, Contains, list_any, is_some, option_or, bytes_eq, false≢true, find-append, IsDistinct-push, IsDistinct-from_apart, nat_eq_equiv, lists_equiv, bytes_eq-Decides, ◌||◌, AllDiffer, Said, said_at, names_said, way_by, way_of, LacksWay, ◌≢◌, map, MatchOption, option_map, same_Some, Span, Lexeme, Range, span_of, numbers_of, bit_name, IsDeclared, Ranges, range_at, IsRanges, ports_of, AreDeclared, ports_at, ports_by, bit_port, zero, suc, ◌+◌, ◌-◌, ◌<◌, ◌≤◌, length, get_or, ◌⊎◌, flat_map, cases_lt, map-append, get_or-map, length-map, IsDistinct-tail, IsDistinct-cons, apart_from_distinct, member_of_flat_map, Member, here, there, Member-append_cases, member_of_map, Contains-from_Member, recursion_from_members, Port, width, Covers, Stands, IsVector, IsClear, bits_of, length-append, sum_by-cons, range_width, bits_said, Contains-append_cases, btree_map_updates_str, span_width, rules, map_push, Contains-append_left, take, Bor, append-nil, flat_map-append, KeepsNames, header_of, AreCellsOf, joined_in, said_by, ended, spelled}
+pub use Rattle.ncl_reader.proofs.Terms.{◌≡◌, ℕ, arith, List, [], ◌∷◌, ◌++◌, Bool, true, false, not, cond, subst, Option, Some, None, inl, inr, refl, sym, ap, ◌∙◌, Contains, list_any, is_some, option_or, bytes_eq, false≢true, find-append, IsDistinct-push, IsDistinct-from_apart, nat_eq_equiv, lists_equiv, bytes_eq-Decides, ◌||◌, AllDiffer, Said, said_at, names_said, way_by, way_of, LacksWay, ◌≢◌, map, MatchOption, option_map, same_Some, Span, Lexeme, Range, span_of, numbers_of, bit_name, IsDeclared, Ranges, range_at, IsRanges, ports_of, AreDeclared, ports_at, ports_by, bit_port, suc, ◌+◌, ◌-◌, ◌<◌, ◌≤◌, length, get_or, ◌⊎◌, flat_map, cases_lt, map-append, get_or-map, length-map, IsDistinct-tail, IsDistinct-cons, apart_from_distinct, member_of_flat_map, Member, here, there, Member-append_cases, member_of_map, Contains-from_Member, recursion_from_members, Port, width, Covers, Stands, IsVector, IsClear, bits_of, length-append, sum_by-cons, range_width, bits_said, Contains-append_cases, btree_map_updates_str, span_width, rules, map_push, Contains-append_left, take, Bor, append-nil, flat_map-append, KeepsNames, header_of, AreCellsOf, joined_in, said_by, ended, spelled}
 pub use Rattle.ncl_reader.proofs.Among.{contains-from_any, any-from_contains, any-push, bytes_eq-comm, found-among, found-name, none-among, single, taken}
 use Rattle.ncl_reader.proofs.Bits.{bit_name-injective, at_default, length-numbers_of, number-rises, number-falls, few_bit}
 pub use Rattle.ncl_reader.proofs.SaidDeclared.{names-append, bits-push, said_declared, header_stands, header_few}

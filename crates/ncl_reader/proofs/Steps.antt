@@ -1,5 +1,5 @@
 -- One token more in a partial tree: a tree is what its tokens lead to, a step adds its token, and what may come next is what a step takes.
-pub use Rattle.ncl_reader.proofs.Terms.{ℕ, List, [], ◌∷◌, ◌++◌, Option, Some, None, option_and_then, option_map, Module, EndModule, Wire, word_of, LParen, RParen, Comma, Semi, Dot, LBracket, RBracket, Colon, Lexeme, Word, Name, Number, Mark, End, Direction, Plain, Wired, Lead, Gives, Wires, Group, all_of, Empty, Names, Ansi, Item, Declares, Joins, Head, LeadPart, led, bracketed, firsted, coloned, lasted, ranged, GroupPart, leading, naming, going, Partial, start, begun, titled, listing, listed, heading, headed, at_item, inside, ended, done, ItemPart, declaring, celled, named, joining, dotted, pinned, opened, netted, indexing, indexed, picked, joined, closed, ◌≡◌, refl, sym, ap, ◌∙◌, append_assoc, append-nil, same_Some, flat_map, Way, Row, direction_phrase, lead_phrase, Range, maybe_phrase, Spec, spec_phrase, group_phrase, Conn, Listing, listing_phrase, with_commas, name_phrase, conn_phrase, row_phrase, item_phrase, head_phrase, body_phrase, group_spelled, spelled, part_spelled, flat_map-append, lead_spelled, header_spelled, conn_spelled, codes, none-some, Text, BeginsShaped, arith, length, inl, inr, subst, length-append, split_push, BreaksRule, Breaks, NoneBreaks, ◌⊎◌, ◌≤◌, ◌+◌, zero, suc}
+pub use Rattle.ncl_reader.proofs.Terms.{ℕ, List, [], ◌∷◌, ◌++◌, Option, Some, None, option_and_then, option_map, Module, EndModule, Wire, word_of, LParen, RParen, Comma, Semi, Dot, LBracket, RBracket, Colon, Lexeme, Word, Name, Number, Mark, End, Direction, Plain, Wired, Lead, Gives, Wires, Group, all_of, Empty, Names, Ansi, Item, Declares, Joins, Head, LeadPart, led, bracketed, firsted, coloned, lasted, ranged, GroupPart, leading, naming, going, Partial, start, begun, titled, listing, listed, heading, headed, at_item, inside, ended, done, ItemPart, declaring, celled, named, joining, dotted, pinned, opened, netted, indexing, indexed, picked, joined, closed, ◌≡◌, refl, sym, ap, ◌∙◌, append_assoc, append-nil, same_Some, flat_map, Row, direction_phrase, lead_phrase, Range, spec_phrase, group_phrase, Conn, Listing, with_commas, name_phrase, conn_phrase, row_phrase, item_phrase, head_phrase, body_phrase, group_spelled, spelled, part_spelled, flat_map-append, lead_spelled, header_spelled, conn_spelled, codes, none-some, Text, BeginsShaped, arith, length, inl, inr, subst, length-append, split_push, BreaksRule, Breaks, NoneBreaks, ◌⊎◌, ◌≤◌, zero, suc}
 
 -- "wire" behind a direction
 abbrev pub direction_more : Direction → Option Direction

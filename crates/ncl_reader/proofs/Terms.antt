@@ -45,7 +45,7 @@ pub use Rattle.ncl_netlist.specs.declared.port.Port.{Port}
 pub use Rattle.ncl_reader.specs.BitNames.{HasBracketAt}
 pub use Rattle.ncl_reader.specs.Draft.{HoldsAt, HoldsBy, IsBody, IsBodyAnd, IsBodyWith, IsDeclaredNext, IsEarly, IsGrouped, IsGroupedWith, IsHeadedNext, IsListed, IsRead, SaysAt, Takes, TakesOrBreaks, cell_in, is_ansi, name_in, said_with}
 pub use Rattle.ncl_reader.specs.Forms.{IsAtClose, IsAtConn, IsAtIndex, IsAtItem, IsAtNet, IsAtPin, IsBehindNet, IsDeclaring, at_declared, in_ansi}
-pub use Rattle.ncl_reader.specs.Grammar.{Ansi, BeginsShaped, Conn, Declares, Direction, Empty, Gives, Group, Head, Item, Joins, Lead, Listing, Names, Net, Plain, Range, Row, Spec, Text, Wired, Wires, all_of, body_phrase, conn_phrase, direction_phrase, group_names, group_phrase, groups_of, head_phrase, header_of, header_phrase, index_phrase, item_phrase, lead_phrase, listing_phrase, maybe_phrase, name_phrase, names_in, range_phrase, row_phrase, spec_phrase, text_phrase, with_commas}
+pub use Rattle.ncl_reader.specs.Grammar.{Ansi, BeginsShaped, Conn, Declares, Direction, Empty, Gives, Group, Head, Item, Joins, Lead, Listing, Names, Net, Plain, Range, Row, Spec, Text, Wired, Wires, all_of, body_phrase, conn_phrase, direction_phrase, group_names, group_phrase, groups_of, head_phrase, header_of, header_phrase, item_phrase, lead_phrase, listing_phrase, name_phrase, names_in, range_phrase, row_phrase, spec_phrase, text_phrase, with_commas}
 pub use Rattle.ncl_reader.specs.GraphicNames.{HasGraphicNames, IsGraphicName}
 pub use Rattle.ncl_reader.specs.Header.{AllDirected, AreDeclared, IsHeader, LacksWay, bit_port, bits_said, names_said, ports_at, ports_by, said_at, span_width, way_by, way_of}
 pub use Rattle.ncl_reader.specs.Instance.{AreJoins, Closes, Joint, MayJoin, joint_in, joint_of, picked_name, pins_in}
@@ -60,7 +60,7 @@ pub use Rattle.ncl_reader.specs.Partial.{GroupPart, ItemPart, LeadPart, Partial,
 pub use Rattle.ncl_reader.specs.Ranges.{IsRanges, kept_as, range_at, vector_at}
 pub use Rattle.ncl_reader.specs.Reads.{IsLexed, IsReadFault, IsRefused, Reads, ReadsTokens, placed_in, placed_of, stop_of}
 pub use Rattle.ncl_reader.specs.Refusals.{HasBadPins, IsFaultAt, IsLeftOut, IsMisread, IsRefusedAt, IsUnknown}
-pub use Rattle.ncl_reader.specs.Rules.{Breaks, BreaksRule, Clashes, Crowds, DirectsLate, HasNoBits, IsOutside, IsTooLong, LeavesPort, NoneBreaks, Redeclares, directed_by, directed_in, group_bits, item_bits}
+pub use Rattle.ncl_reader.specs.Rules.{Breaks, BreaksRule, Clashes, Crowds, IsOutside, IsTooLong, NoneBreaks, Redeclares, directed_by, directed_in, group_bits, item_bits}
 pub use Rattle.ncl_reader.specs.Says.{AreCellsOf, IsCellOf, Joined, Said, Says, bits_of, is_output, joined_in, net_name, net_on, ports_of, ports_said, said_by, said_in, said_in_header, said_of}
 pub use Rattle.ncl_reader.specs.Uses.{IsUses}
 pub use Rattle.ncl_reader.specs.Vectors.{Covers, IsBit, IsClear, IsDeclared, IsTooLarge, IsUsed, IsVector, MOST_PORT_BITS, MOST_VECTOR_BITS, Stands, bit_name, down_from, numbers_of, range_width, span_of, up_from, width}

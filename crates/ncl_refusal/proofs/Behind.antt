@@ -1,33 +1,6 @@
 -- What stands behind a stage: where only a cell of the stage itself can move, and then the bank after the stage can't take or
 -- give up a rail, all of it stays as it is.
-use Rattle.std.proofs.lemmas.List.Folds.{list_all-map}
-use Rattle.std.proofs.Common.{◌≡◌, ℕ, suc, ◌<◌, ◌≤◌, Bool, true, false, not, ◌||◌, [], ◌∷◌, Option, None, Some, inl, inr, refl, sym, ap, ◌∙◌, subst, arith}
-use Rattle.std.specs.Prelude.{nat_eq, slice_get}
-use Rattle.std.specs.List.{list_all}
-use Rattle.std.proofs.Math.Bool.{not-not}
-use Rattle.std.proofs.lemmas.Bool.{and_from, both_ways, cases_eq, ne_eqb, not_from_false}
-use Rattle.ncl_base.proofs.Members.{Member, here, there, slice_get-from_Contains}
-use Rattle.ncl_gates.specs.Gate.{next_of}
-use Rattle.ncl_gates.specs.Cell.{next_of_cell}
-use Rattle.ncl_netlist.specs.declared.ids.NetId.{NetId}
-use Rattle.ncl_netlist.specs.declared.cell.Cell.{Cell}
-use Rattle.ncl_cell_rules.specs.Origin.{CellAt}
-use Rattle.ncl_shape.specs.declared.rails.Rails.{Rails}
-use Rattle.ncl_shape.specs.declared.stage.StageCell.{StageCell}
-use Rattle.ncl_shape.specs.declared.item.Item.{Item}
-use Rattle.ncl_shape.specs.declared.item.Item.TheVariants.{Cell as Fire, Raise, Lower, Take, Ready}
-use Rattle.ncl_shape.specs.Nets.{Nets}
-use Rattle.ncl_shape.specs.Stage.{out_of}
-use Rattle.ncl_shape.specs.Closure.{pin_values}
-use Rattle.ncl_shape.specs.Pipeline.{PipelineData}
-use Rattle.ncl_shape.proofs.ClosureLaws.{pin_values-same}
-use Rattle.ncl_cell_roles.specs.Layout.{in_rail, out_rail, Layout, IsLayoutOf, TreePart, acks, completes, width, stage_nets}
-use Rattle.ncl_machine.specs.State.{State}
-use Rattle.ncl_machine.specs.Steps.{differ, enabled, is_excited, next_value}
-use Rattle.ncl_machine.specs.AtWork.{IsExcited, next_of_gate}
-use Rattle.ncl_machine.proofs.StageNets.{in_bit, rail-listed, gate-listed, inputs-listed, out-listed, outputs-listed, root-listed, tree-listed}
-use Rattle.ncl_base.proofs.Tests.{map-same}
-use Rattle.ncl_insensitivity.proofs.NextValues.{gate-next, register-excited}
+use Rattle.ncl_refusal.proofs.Terms.{Bool, Cell, CellAt, Fire, IsExcited, IsLayoutOf, Item, Layout, Lower, Member, NetId, Nets, None, Option, PipelineData, Rails, Raise, Ready, Some, StageCell, State, Take, TreePart, [], acks, and_from, ap, arith, both_ways, cases_eq, completes, differ, enabled, false, gate-listed, gate-next, here, in_bit, in_rail, inl, inputs-listed, inr, is_excited, list_all, list_all-map, map-same, nat_eq, ne_eqb, next_of, next_of_cell, next_of_gate, next_value, not, not-not, not_from_false, out-listed, out_of, out_rail, outputs-listed, pin_values, pin_values-same, rail-listed, refl, register-excited, root-listed, slice_get, slice_get-from_Contains, stage_nets, subst, suc, sym, there, tree-listed, true, width, ℕ, ◌<◌, ◌||◌, ◌∙◌, ◌∷◌, ◌≡◌, ◌≤◌}
 use Rattle.ncl_refusal.proofs.Does.{later, MovesStage, by_gate, by_register, by_source, stage-moves, MovesTree, by_cell, by_take, by_ready, tree-moves}
 
 -- tests that agree on each output

@@ -1,43 +1,6 @@
 -- The runs that break what a fault names, from reset where no bank is reset to DATA, by the items that are tried for them.
-use Rattle.std.proofs.Common.{◌≡◌, ◌≢◌, ℕ, zero, suc, ◌+◌, ◌<◌, ◌≤◌, Bool, true, false, if◌then◌else◌, List, [], ◌∷◌, ◌++◌, length, Option, None, Some, refl, sym, ap, ◌∙◌, subst, arith}
-use Rattle.std.specs.Prelude.{All, slice_get}
-use Rattle.std.proofs.lemmas.Bool.{ne_eqb}
-use Rattle.std.proofs.lemmas.Option.{slice_get_within}
-use Rattle.ncl_base.proofs.Members.{Member, here, there, All-from_members}
-use Rattle.ncl_netlist.specs.declared.ids.CellId.{CellId}
-use Rattle.ncl_netlist.specs.declared.cell.Cell.{Cell}
-use Rattle.ncl_cell_rules.specs.Origin.{CellAt}
-use Rattle.ncl_cell_rules.specs.CellOrder.{IsCellOrder}
-use Rattle.ncl_shape.specs.declared.bank.Bank.{Bank}
-use Rattle.ncl_shape.specs.declared.bank.Bit.{Bit as BankBit}
-use Rattle.ncl_shape.specs.declared.item.Item.{Item}
-use Rattle.ncl_shape.specs.declared.item.Item.TheVariants.{Cell as Fire}
-use Rattle.ncl_shape.specs.declared.stage.StageCell.{StageCell}
-use Rattle.ncl_shape.specs.Stage.{StageData}
-use Rattle.ncl_shape.specs.Pipeline.{PipelineData}
-use Rattle.ncl_shape.specs.Shape.{Shape}
-use Rattle.ncl_cell_rules.proofs.GateRanks.{cell_order}
-use Rattle.ncl_cell_roles.specs.Layout.{Layout, IsLayoutOf, IsRegisterOf, width}
-use Rattle.ncl_cell_roles.proofs.LaidOut.{laid_out}
-use Rattle.ncl_faults.specs.declared.variant.Variant.TheVariants.{Bit}
-use Rattle.ncl_faults.specs.Values.{val}
-use Rattle.ncl_faults.specs.Faults.{StageFault, BothRails, NoRail, Incomplete, Orphan, all_data, shows}
-use Rattle.ncl_machine.specs.State.{State, reset}
-use Rattle.ncl_machine.specs.Steps.{enabled}
-use Rattle.ncl_machine.specs.Run.{IsRunFrom, IsQuiet, after}
-use Rattle.ncl_machine.proofs.NamedRails.{bit_at}
-use Rattle.ncl_insensitivity.proofs.Composition.{word_at}
-use Rattle.ncl_hazard.specs.Schedule.{raises, fires, forth, gates_of, gates_at, is_cell, no_cell, registers_at, registers_but, reaching, coming, lacking, acknowledging, going}
-use Rattle.ncl_hazard.specs.Trying.{HasNoDataBank, happened, tried, Loses}
-use Rattle.ncl_hazard.specs.Why.{brings}
-use Rattle.ncl_hazard.proofs.Found.{rail_id, regs, bit-within, cells_are, register-here, registers_but-are}
-use Rattle.ncl_hazard.proofs.BankSweeps.{AreRegistersBut}
-use Rattle.ncl_hazard.proofs.Handing.{IsOneRailed, wide-at}
-use Rattle.ncl_hazard.proofs.JoinedLaws.{stage-here}
-use Rattle.ncl_hazard.proofs.NullReset.{IsEmptied, emptied-at_reset}
+use Rattle.ncl_refusal.proofs.Terms.{All, All-from_members, AreRegistersBut, AreSoundOnTheWay, Bank, BankBit, Bit, Bool, BothRails, BreaksBy, Cell, CellAt, CellId, Fire, HasNoDataBank, Incomplete, IsCellOrder, IsEmptied, IsLayoutOf, IsOneRailed, IsQuiet, IsRegisterOf, IsRunFrom, Item, Layout, List, Loses, Member, NoRail, None, Orphan, PipelineData, Shape, Some, StageCell, StageData, StageFault, State, [], acknowledging, after, all_data, ap, arith, bit-within, bit_at, brings, cell_order, cells_are, coming, emptied-at_reset, enabled, false, fires, forth, gate_loses, gates_at, gates_of, going, happened, here, if◌then◌else◌, is_cell, lacking, laid_out, length, ne_eqb, no_cell, rail_id, raises, reaching, refl, register-here, registers_at, registers_but, registers_but-are, regs, reset, shows, slice_get, slice_get_within, stage-here, subst, suc, sym, there, tried, true, val, wide-at, width, word_at, zero, ℕ, ◌++◌, ◌+◌, ◌<◌, ◌∙◌, ◌∷◌, ◌≡◌, ◌≢◌, ◌≤◌}
 use Rattle.ncl_hazard.proofs.ShownRuns as orphans
-use Rattle.ncl_refusal.specs.Breaks.{BreaksBy, gate_loses}
-use Rattle.ncl_refusal.specs.Reached.{AreSoundOnTheWay}
 use Rattle.ncl_refusal.proofs.Arrival.{none, path}
 use Rattle.ncl_refusal.proofs.Incompletes as incompletes
 use Rattle.ncl_refusal.proofs.Reaching.{IsReached, reached-reset}

@@ -1,45 +1,6 @@
 -- What a delay-insensitive pipeline owes at a word that a bank holds at reset, in the stage after the bank: one high rail of
 -- each output, and no orphan.
-use Rattle.std.proofs.Common.{◌≡◌, ◌≢◌, ℕ, suc, ◌<◌, ◌≤◌, Bool, true, false, not, List, [], length, get_or, Some, inl, inr, refl, sym, ap, ◌∙◌, subst, arith}
-use Rattle.std.specs.Prelude.{Contains, nat_eq, slice_get}
-use Rattle.std.proofs.lemmas.Bool.{and_from, and_parts, both_ways, cases_Bool, cases_eq, eq-eqb, false_from_ne_true, ne_eqb, true_from_ne_false}
-use Rattle.ncl_base.proofs.Members.{Member, Member-get_or, Contains-from_Member, Contains-from_slice_get, Member-from_Contains, slice_get-from_Contains}
-use Rattle.ncl_base.proofs.Tests.{list_all-member}
-use Rattle.ncl_gates.specs.Gate.{set_of, some_high}
-use Rattle.ncl_gates.proofs.GateLaws.{set_of-low}
-use Rattle.ncl_netlist.specs.declared.cell.Cell.{Cell}
-use Rattle.ncl_cell_rules.specs.Origin.{CellAt}
-use Rattle.ncl_shape.specs.declared.item.Item.{Item}
-use Rattle.ncl_shape.specs.declared.item.Item.TheVariants.{Cell as Fire}
-use Rattle.ncl_shape.specs.declared.rails.Rails.{Rails}
-use Rattle.ncl_shape.specs.declared.stage.StageCell.{StageCell}
-use Rattle.ncl_shape.specs.Nets.{Nets}
-use Rattle.ncl_shape.specs.Stage.{StageData, IsStage, out_of}
-use Rattle.ncl_shape.specs.Closure.{pin_values}
-use Rattle.ncl_shape.specs.Pipeline.{PipelineData}
-use Rattle.ncl_shape.specs.Shape.{Shape}
-use Rattle.ncl_shape.proofs.PinLaws.{some_high-low}
-use Rattle.ncl_cell_roles.specs.Layout.{no_rails, rail_at, in_rail, out_rail, Layout, IsLayoutOf, width, stage_nets}
-use Rattle.ncl_cell_roles.proofs.RailNets.{rail-place, rail-within}
-use Rattle.ncl_faults.specs.declared.variant.Variant.TheVariants.{Base, Cell as Without}
-use Rattle.ncl_faults.specs.Values.{kept_low, output_net, val}
-use Rattle.ncl_faults.specs.Faults.{all_data, has_data, is_illegal}
-use Rattle.ncl_faults.proofs.ValueLaws.{rail-no_output, same_output}
-use Rattle.ncl_machine.specs.State.{State}
-use Rattle.ncl_machine.specs.AtWork.{IsExcited, next_of_gate}
-use Rattle.ncl_machine.specs.Steps.{differ, enabled, next_value, step}
-use Rattle.ncl_machine.specs.Run.{after}
-use Rattle.ncl_machine.specs.DelayInsensitive.{IsDelayInsensitive, IsLegalState}
-use Rattle.ncl_machine.proofs.Completion.{ReadsNew, all_are_new, old_is_turning}
-use Rattle.ncl_machine.proofs.FallingLaws.{IsUnfed, excited-from_unfed, next-from_unfed}
-use Rattle.ncl_machine.proofs.InOrder.{in_order}
-use Rattle.ncl_machine.proofs.LocalNets.{local-at, in_stage, in_tree}
-use Rattle.ncl_machine.proofs.NamedRails.{rail-data, some-rail}
-use Rattle.ncl_machine.proofs.StageNets.{in_bit, in_outputs, rail-listed, gate-listed, inputs-listed, outputs-listed, out-listed, output-listed, root-listed, tree-listed}
-use Rattle.ncl_insensitivity.proofs.NextValues.{register-excited}
-use Rattle.ncl_insensitivity.proofs.RisingLaws.{waits-from_excited}
-use Rattle.ncl_hazard.proofs.Found.{cells_are}
-use Rattle.ncl_hazard.proofs.StageSweeps.{AreCellsOf}
+use Rattle.ncl_refusal.proofs.Terms.{AreCellsOf, Base, Bool, Cell, CellAt, Contains, Contains-from_Member, Contains-from_slice_get, Fire, IsDelayInsensitive, IsExcited, IsLayoutOf, IsLegalState, IsStage, IsUnfed, Item, Layout, List, Member, Member-from_Contains, Member-get_or, Nets, PipelineData, Rails, ReadsNew, Shape, Some, StageCell, StageData, State, Without, [], after, all_are_new, all_data, and_from, and_parts, ap, arith, both_ways, cases_Bool, cases_eq, cells_are, differ, enabled, eq-eqb, excited-from_unfed, false, false_from_ne_true, gate-listed, get_or, has_data, in_bit, in_order, in_outputs, in_rail, in_stage, in_tree, inl, inputs-listed, inr, is_illegal, kept_low, length, list_all-member, local-at, nat_eq, ne_eqb, next-from_unfed, next_of_gate, next_value, no_rails, not, old_is_turning, out-listed, out_of, out_rail, output-listed, output_net, outputs-listed, pin_values, rail-data, rail-listed, rail-no_output, rail-place, rail-within, rail_at, refl, register-excited, root-listed, same_output, set_of, set_of-low, slice_get, slice_get-from_Contains, some-rail, some_high, some_high-low, stage_nets, step, subst, suc, sym, tree-listed, true, true_from_ne_false, val, waits-from_excited, width, ℕ, ◌<◌, ◌∙◌, ◌≡◌, ◌≢◌, ◌≤◌}
 use Rattle.ncl_refusal.proofs.Behind.{IsBehind, avoids, behind-itself, behind-kept, cell_still}
 use Rattle.ncl_refusal.proofs.Ends as ends
 use Rattle.ncl_refusal.proofs.HeldRuns.{cell-enabled, gate-enabled, gate-excited, avoids-cell, of_stage, of_stage-cell, other-stays, picks-cell, picks-gate, run-among, stays-enabled}

@@ -1,42 +1,6 @@
 -- A word that a bank held at reset comes to a stage past the bank's own: there the stage must wait for each bit, as at a word
 -- that an input brings.
-use Rattle.std.proofs.Common.{◌≡◌, ◌≢◌, ℕ, suc, ◌<◌, ◌≤◌, Bool, true, false, not, ◌&&◌, ◌||◌, List, [], length, map, get_or, refl, sym, ap, ◌∙◌, subst, arith}
-use Rattle.std.specs.Prelude.{nat_eq}
-use Rattle.std.proofs.lemmas.Bool.{and_from, and_parts, both_ways, eq-eqb, not-true, or_left, or_right, true_from_ne_false}
-use Rattle.std.proofs.lemmas.Option.{slice_get-get_or}
-use Rattle.ncl_base.proofs.Members.{Member, Member-append_left, Member-append_right, Member-get_or, Member-map, member_of_map, recursion_from_members}
-use Rattle.ncl_base.proofs.Tests.{list_all-member}
-use Rattle.ncl_netlist.specs.declared.cell.Cell.{Cell}
-use Rattle.ncl_netlist.specs.declared.ids.CellId.{CellId}
-use Rattle.ncl_netlist.specs.declared.ids.NetId.{NetId}
-use Rattle.ncl_cell_rules.specs.Origin.{CellAt}
-use Rattle.ncl_shape.specs.declared.item.Item.{Item}
-use Rattle.ncl_shape.specs.declared.item.Item.TheVariants.{Cell as Fire}
-use Rattle.ncl_shape.specs.declared.rails.Rails.{Rails}
-use Rattle.ncl_shape.specs.Nets.{Nets, among}
-use Rattle.ncl_shape.specs.Stage.{StageData, IsStage, named_rails, out_of, rail_nets}
-use Rattle.ncl_shape.specs.Pipeline.{PipelineData}
-use Rattle.ncl_shape.specs.Shape.{Shape}
-use Rattle.ncl_shape.proofs.ClosureLaws.{set_of-grows}
-use Rattle.ncl_cell_roles.specs.Layout.{no_rails, in_rail, out_rail, Layout, IsLayoutOf, IsRegisterOf, width, stage_nets}
-use Rattle.ncl_cell_roles.proofs.RailNets.{rail-place, rail-within}
-use Rattle.ncl_faults.specs.declared.variant.Variant.TheVariants.{Base, Bit}
-use Rattle.ncl_faults.specs.Values.{both_rails, holds, kept_low, val}
-use Rattle.ncl_faults.specs.Faults.{all_data, has_data}
-use Rattle.ncl_faults.proofs.OnePass.{among-from_member}
-use Rattle.ncl_faults.proofs.ValueLaws.{rail-no_output, val-output, val-rail}
-use Rattle.ncl_machine.specs.State.{State}
-use Rattle.ncl_machine.specs.AtWork.{IsExcited, next_of_gate}
-use Rattle.ncl_machine.specs.Steps.{differ, enabled}
-use Rattle.ncl_machine.specs.Run.{after}
-use Rattle.ncl_machine.specs.Composition.{stage_function}
-use Rattle.ncl_machine.specs.DelayInsensitive.{IsDelayInsensitive}
-use Rattle.ncl_machine.proofs.InOrder.{in_order}
-use Rattle.ncl_machine.proofs.NamedRails.{bit_at, member-from_among, named-has, rail-data, some-rail}
-use Rattle.ncl_machine.proofs.StageNets.{in_bit, in_outputs, rail-listed, out-listed, root-listed}
-use Rattle.ncl_insensitivity.proofs.NextValues.{gate-next, register-excited, register-turns}
-use Rattle.ncl_insensitivity.proofs.RisingLaws.{excited-from_waiting}
-use Rattle.ncl_hazard.proofs.Handing.{IsOneRailed}
+use Rattle.ncl_refusal.proofs.Terms.{Base, Bit, Bool, Cell, CellAt, CellId, Fire, IsDelayInsensitive, IsExcited, IsLayoutOf, IsOneRailed, IsRegisterOf, IsStage, Item, Layout, List, Member, Member-append_left, Member-append_right, Member-get_or, Member-map, NetId, Nets, PipelineData, Rails, Shape, StageData, State, [], after, all_data, among, among-from_member, and_from, and_parts, ap, arith, bit_at, both_rails, both_ways, differ, enabled, eq-eqb, excited-from_waiting, false, gate-next, get_or, has_data, holds, in_bit, in_order, in_outputs, in_rail, kept_low, length, list_all-member, map, member-from_among, member_of_map, named-has, named_rails, nat_eq, next_of_gate, no_rails, not, not-true, or_left, or_right, out-listed, out_of, out_rail, rail-data, rail-listed, rail-no_output, rail-place, rail-within, rail_nets, recursion_from_members, refl, register-excited, register-turns, root-listed, set_of-grows, slice_get-get_or, some-rail, stage_function, stage_nets, subst, suc, sym, true, true_from_ne_false, val, val-output, val-rail, width, ℕ, ◌&&◌, ◌<◌, ◌||◌, ◌∙◌, ◌≡◌, ◌≢◌, ◌≤◌}
 use Rattle.ncl_refusal.proofs.Behind.{passes_at, picks}
 use Rattle.ncl_refusal.proofs.HeldPass.{HasMoved, IsAt, moved, next-wide, output-named, settled, settled-value, tree-moved}
 use Rattle.ncl_refusal.proofs.HeldRuns.{cell-enabled, cell-excited, stays-enabled}

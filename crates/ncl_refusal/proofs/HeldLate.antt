@@ -1,48 +1,6 @@
 -- No bit of a word that a bank holds at reset may be late in a delay-insensitive pipeline: where nothing waits for its rail to
 -- fall, the bank after the stage goes on to NULL, and asks for DATA, while the register cell of the rail is still to fall.
-use Rattle.std.proofs.Common.{◌≡◌, ℕ, suc, ◌<◌, ◌≤◌, Bool, true, false, not, ◌||◌, List, [], ◌∷◌, length, get_or, inl, inr, refl, sym, ap, ◌∙◌, subst, arith}
-use Rattle.std.specs.Prelude.{nat_eq}
-use Rattle.std.specs.List.{list_any}
-use Rattle.std.proofs.lemmas.Bool.{and_from, and_parts, both_ways, cases_eq, eq-eqb, false_from_ne_true, ne_eqb, not-true, or_from, or_parts, true_from_ne_false}
-use Rattle.ncl_base.proofs.Members.{Member, Member-get_or, Contains-from_Member, list_any-from_member, member_cases, recursion_from_members, slice_get-from_Contains}
-use Rattle.ncl_base.proofs.Tests.{list_all-member}
-use Rattle.ncl_gates.specs.Gate.{set_of, some_high}
-use Rattle.ncl_gates.proofs.GateLaws.{set_of-low}
-use Rattle.ncl_netlist.specs.declared.cell.Cell.{Cell}
-use Rattle.ncl_netlist.specs.declared.ids.CellId.{CellId}
-use Rattle.ncl_netlist.specs.declared.ids.NetId.{NetId}
-use Rattle.ncl_cell_rules.specs.Origin.{CellAt}
-use Rattle.ncl_shape.specs.declared.item.Item.{Item}
-use Rattle.ncl_shape.specs.declared.item.Item.TheVariants.{Cell as Fire}
-use Rattle.ncl_shape.specs.declared.rails.Rails.{Rails}
-use Rattle.ncl_shape.specs.declared.stage.StageCell.{StageCell}
-use Rattle.ncl_shape.specs.Nets.{Nets}
-use Rattle.ncl_shape.specs.Stage.{StageData, IsStage, out_of}
-use Rattle.ncl_shape.specs.Closure.{pin_values}
-use Rattle.ncl_shape.specs.Pipeline.{PipelineData}
-use Rattle.ncl_shape.specs.Shape.{Shape}
-use Rattle.ncl_shape.proofs.ClosureLaws.{set_of-grows}
-use Rattle.ncl_shape.proofs.PinLaws.{some_high-low}
-use Rattle.ncl_cell_roles.specs.Layout.{no_rails, rail_at, in_rail, out_rail, Layout, IsLayoutOf, IsRegisterOf, width, stage_nets}
-use Rattle.ncl_cell_roles.proofs.RailNets.{rail-place}
-use Rattle.ncl_faults.specs.declared.variant.Variant.TheVariants.{Base}
-use Rattle.ncl_faults.specs.Values.{holds, kept_low, val}
-use Rattle.ncl_faults.proofs.ValueLaws.{val-settled}
-use Rattle.ncl_machine.specs.SoundAt.{is_held_up, is_left_high, only}
-use Rattle.ncl_machine.specs.State.{State, no_nets, reset}
-use Rattle.ncl_machine.specs.AtWork.{IsExcited, next_of_gate}
-use Rattle.ncl_machine.specs.Steps.{differ, enabled, is_null, next_value, step}
-use Rattle.ncl_machine.specs.Run.{IsQuiet, after}
-use Rattle.ncl_machine.specs.DelayInsensitive.{IsDelayInsensitive}
-use Rattle.ncl_machine.proofs.AtWorkLaws.{holds-excited, named-within_values}
-use Rattle.ncl_machine.proofs.FallingLaws.{IsUnfed, excited-from_unfed, next-from_unfed, unfed-at}
-use Rattle.ncl_machine.proofs.InOrder.{in_order}
-use Rattle.ncl_machine.proofs.LocalNets.{with_net-here}
-use Rattle.ncl_machine.proofs.NamedRails.{bit_at, named-has}
-use Rattle.ncl_machine.proofs.StageNets.{in_outputs, rail-listed, gate-listed, inputs-listed, out-listed, root-listed, tree-listed}
-use Rattle.ncl_insensitivity.proofs.NextValues.{register-excited, register-turns}
-use Rattle.ncl_hazard.proofs.Found.{cells_are}
-use Rattle.ncl_hazard.proofs.StageSweeps.{AreCellsOf}
+use Rattle.ncl_refusal.proofs.Terms.{AreCellsOf, Base, Bool, Cell, CellAt, CellId, Contains-from_Member, Fire, IsDelayInsensitive, IsExcited, IsLayoutOf, IsQuiet, IsRegisterOf, IsStage, IsUnfed, Item, Layout, List, Member, Member-get_or, NetId, Nets, PipelineData, Rails, Shape, StageCell, StageData, State, [], after, and_from, and_parts, ap, arith, bit_at, both_ways, cases_eq, cells_are, differ, enabled, eq-eqb, excited-from_unfed, false, false_from_ne_true, gate-listed, get_or, holds, holds-excited, in_order, in_outputs, in_rail, inl, inputs-listed, inr, is_held_up, is_left_high, is_null, kept_low, length, list_all-member, list_any, list_any-from_member, member_cases, named-has, named-within_values, nat_eq, ne_eqb, next-from_unfed, next_of_gate, next_value, no_nets, no_rails, not, not-true, only, or_from, or_parts, out-listed, out_of, out_rail, pin_values, rail-listed, rail-place, rail_at, recursion_from_members, refl, register-excited, register-turns, reset, root-listed, set_of, set_of-grows, set_of-low, slice_get-from_Contains, some_high, some_high-low, stage_nets, step, subst, suc, sym, tree-listed, true, true_from_ne_false, unfed-at, val, val-settled, width, with_net-here, ℕ, ◌<◌, ◌||◌, ◌∙◌, ◌∷◌, ◌≡◌, ◌≤◌}
 use Rattle.ncl_refusal.proofs.Behind.{IsBehind, avoids, behind-itself, behind-kept, cell_still}
 use Rattle.ncl_refusal.proofs.Does.{MovesStage, by_gate, by_register, by_source, stage-moves}
 use Rattle.ncl_refusal.proofs.Ends as ends

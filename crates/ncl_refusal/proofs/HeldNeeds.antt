@@ -1,27 +1,5 @@
 -- What a delay-insensitive pipeline owes at the words that banks hold at reset, in the stages after these banks and past them.
-use Rattle.std.proofs.Common.{◌≡◌, ℕ, zero, suc, ◌+◌, ◌-◌, ◌<◌, ◌≤◌, Bool, false, List, [], ◌∷◌, length, drop, Some, refl, sym, ap, ◌∙◌, subst, arith}
-use Rattle.std.specs.Prelude.{slice_get}
-use Rattle.std.proofs.lemmas.Bool.{false_from_ne_true}
-use Rattle.std.proofs.lemmas.Option.{slice_get_within}
-use Rattle.ncl_shape.specs.declared.rails.Rails.{Rails}
-use Rattle.ncl_shape.specs.Stage.{StageData}
-use Rattle.ncl_shape.specs.Pipeline.{PipelineData}
-use Rattle.ncl_shape.specs.Shape.{Shape}
-use Rattle.ncl_cell_roles.specs.Layout.{Layout, IsLayoutOf, width}
-use Rattle.ncl_cell_roles.proofs.LaidOut.{laid_out}
-use Rattle.ncl_cell_roles.proofs.Numbering.{stage_at, inner_stage}
-use Rattle.ncl_faults.specs.declared.variant.Variant.TheVariants.{Bit}
-use Rattle.ncl_faults.specs.Values.{val}
-use Rattle.ncl_faults.specs.Faults.{StageFault, BothRails, NoRail, Incomplete, Orphan, all_data, shows}
-use Rattle.ncl_machine.specs.SoundAt.{IsSoundAt, IsSoundWhenHeld}
-use Rattle.ncl_machine.specs.State.{State}
-use Rattle.ncl_machine.specs.Composition.{stage_function}
-use Rattle.ncl_machine.specs.DelayInsensitive.{IsDelayInsensitive}
-use Rattle.ncl_insensitivity.proofs.HeldLayout.{held-in, slice_get-drop}
-use Rattle.ncl_hazard.specs.Why.{brings}
-use Rattle.ncl_hazard.proofs.Found.{own_stage}
-use Rattle.ncl_hazard.proofs.Handing.{IsOneRailed}
-use Rattle.ncl_refusal.specs.Reached.{IsSoundWhereHeld, IsSoundPastHeld}
+use Rattle.ncl_refusal.proofs.Terms.{Bit, Bool, BothRails, Incomplete, IsDelayInsensitive, IsLayoutOf, IsOneRailed, IsSoundAt, IsSoundPastHeld, IsSoundWhenHeld, IsSoundWhereHeld, Layout, List, NoRail, Orphan, PipelineData, Rails, Shape, Some, StageData, StageFault, State, [], all_data, ap, arith, brings, drop, false, false_from_ne_true, held-in, inner_stage, laid_out, length, own_stage, refl, shows, slice_get, slice_get-drop, slice_get_within, stage_at, stage_function, subst, suc, sym, val, width, zero, ℕ, ◌+◌, ◌-◌, ◌<◌, ◌∙◌, ◌∷◌, ◌≡◌, ◌≤◌}
 use Rattle.ncl_refusal.proofs.HeldIncompletes.{not_incomplete}
 use Rattle.ncl_refusal.proofs.HeldPass.{IsAt, beginning, empty-past, goes-on, gone_on, listed-stage, next-wide, one-railed, starts}
 use Rattle.ncl_refusal.proofs.HeldSound.{sound-where_begun}

@@ -1,36 +1,5 @@
 -- Runs of a delay-insensitive pipeline that spare a net, and of the cells of one stage alone.
-use Rattle.std.proofs.Common.{◌≡◌, ◌≢◌, ℕ, suc, ◌<◌, ◌≤◌, Bool, true, false, not, ◌&&◌, ◌||◌, List, [], ◌∷◌, Option, None, Some, inl, inr, refl, sym, ap, ◌∙◌, subst, arith}
-use Rattle.std.specs.Prelude.{nat_eq, slice_get}
-use Rattle.std.specs.List.{list_all}
-use Rattle.std.proofs.lemmas.Bool.{and_from, and_parts, both_ways, eq-eqb, not-true}
-use Rattle.ncl_base.proofs.Members.{Member, here, there, member_of_map}
-use Rattle.ncl_netlist.specs.declared.ids.CellId.{CellId}
-use Rattle.ncl_netlist.specs.declared.cell.Cell.{Cell}
-use Rattle.ncl_netlist.specs.declared.ids.NetId.{NetId}
-use Rattle.ncl_cell_rules.specs.Origin.{CellAt}
-use Rattle.ncl_shape.specs.declared.item.Item.{Item}
-use Rattle.ncl_shape.specs.declared.item.Item.TheVariants.{Cell as Fire, Raise, Lower, Take, Ready}
-use Rattle.ncl_shape.specs.declared.stage.StageCell.{StageCell}
-use Rattle.ncl_shape.specs.Nets.{Nets, among}
-use Rattle.ncl_shape.specs.Stage.{out_of}
-use Rattle.ncl_shape.specs.Pipeline.{PipelineData}
-use Rattle.ncl_cell_roles.specs.Layout.{in_rail, Layout, IsLayoutOf, stage_nets, width}
-use Rattle.ncl_faults.specs.Faults.{has_data}
-use Rattle.ncl_faults.proofs.OnePass.{among-from_member}
-use Rattle.ncl_machine.specs.State.{State}
-use Rattle.ncl_machine.specs.AtWork.{IsExcited, next_of_gate}
-use Rattle.ncl_machine.specs.Steps.{current_rails, differ, enabled, fired, is_excited, next_value, put_at, step}
-use Rattle.ncl_machine.specs.Run.{IsRunFrom, IsPersistent, after}
-use Rattle.ncl_machine.specs.DelayInsensitive.{IsDelayInsensitive}
-use Rattle.ncl_machine.proofs.AtWorkLaws.{with_net-elsewhere}
-use Rattle.ncl_machine.proofs.Completion.{ReadsNew, nets_new, old_is_turning, reads-bit, up_the_tree}
-use Rattle.ncl_machine.proofs.LocalNets.{local-at, in_stage, in_tree}
-use Rattle.ncl_machine.proofs.NamedRails.{member-from_among}
-use Rattle.ncl_machine.proofs.StageNets.{in_bit, gate-listed, ki-listed, rail-listed, tree-listed}
-use Rattle.ncl_machine.proofs.TruthValues.{same_or_not}
-use Rattle.ncl_insensitivity.proofs.NextValues.{gate-next}
-use Rattle.ncl_insensitivity.proofs.StepValues.{lowered-value}
-use Rattle.ncl_hazard.proofs.StageSweeps.{AreCellsOf}
+use Rattle.ncl_refusal.proofs.Terms.{AreCellsOf, Bool, Cell, CellAt, CellId, Fire, IsDelayInsensitive, IsExcited, IsLayoutOf, IsPersistent, IsRunFrom, Item, Layout, List, Lower, Member, NetId, Nets, None, Option, PipelineData, Raise, ReadsNew, Ready, Some, StageCell, State, Take, [], after, among, among-from_member, and_from, and_parts, ap, arith, both_ways, current_rails, differ, enabled, eq-eqb, false, fired, gate-listed, gate-next, has_data, here, in_bit, in_rail, in_stage, in_tree, inl, inr, is_excited, ki-listed, list_all, local-at, lowered-value, member-from_among, member_of_map, nat_eq, nets_new, next_of_gate, next_value, not, not-true, old_is_turning, out_of, put_at, rail-listed, reads-bit, refl, same_or_not, slice_get, stage_nets, step, subst, suc, sym, there, tree-listed, true, up_the_tree, width, with_net-elsewhere, ℕ, ◌&&◌, ◌<◌, ◌||◌, ◌∙◌, ◌∷◌, ◌≡◌, ◌≢◌, ◌≤◌}
 use Rattle.ncl_refusal.proofs.Behind.{avoids, passes_at, picks}
 use Rattle.ncl_refusal.proofs.Does.{current-listed}
 use Rattle.ncl_refusal.proofs.Reaching.{IsReached, reached-run}

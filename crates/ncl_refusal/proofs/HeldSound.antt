@@ -1,21 +1,5 @@
 -- What a delay-insensitive pipeline owes in the stage after a bank that holds a word at reset.
-use Rattle.std.proofs.Common.{◌≡◌, ℕ, suc, ◌<◌, Bool, false, not, ◌&&◌, List, length, inl, inr, sym, ap, ◌∙◌}
-use Rattle.std.specs.Prelude.{Contains, slice_get}
-use Rattle.std.proofs.lemmas.Bool.{and_parts, both_ways, cases_lt, false_from_ne_true, not-true}
-use Rattle.std.proofs.lemmas.Option.{slice_get_within, get_or_from_slice_get}
-use Rattle.ncl_base.proofs.Members.{Contains-from_slice_get, Member-from_Contains}
-use Rattle.ncl_shape.specs.declared.stage.StageCell.{StageCell}
-use Rattle.ncl_shape.specs.Stage.{StageData}
-use Rattle.ncl_shape.specs.Pipeline.{PipelineData}
-use Rattle.ncl_shape.specs.Shape.{Shape}
-use Rattle.ncl_cell_roles.specs.Layout.{Layout, IsLayoutOf, no_rails, width}
-use Rattle.ncl_faults.specs.declared.variant.Variant.TheVariants.{Base, Cell as Without}
-use Rattle.ncl_faults.specs.Values.{val}
-use Rattle.ncl_faults.specs.Faults.{BothRails, NoRail, Orphan, all_data, has_data, holds_at, is_illegal, shows}
-use Rattle.ncl_machine.specs.SoundAt.{IsSoundWhenHeld, is_late, is_left_high}
-use Rattle.ncl_machine.specs.State.{State}
-use Rattle.ncl_machine.specs.DelayInsensitive.{IsDelayInsensitive}
-use Rattle.ncl_machine.proofs.NamedRails.{named-get, named-past}
+use Rattle.ncl_refusal.proofs.Terms.{Base, Bool, BothRails, Contains, Contains-from_slice_get, IsDelayInsensitive, IsLayoutOf, IsSoundWhenHeld, Layout, List, Member-from_Contains, NoRail, Orphan, PipelineData, Shape, StageCell, StageData, State, Without, all_data, and_parts, ap, both_ways, cases_lt, false, false_from_ne_true, get_or_from_slice_get, has_data, holds_at, inl, inr, is_illegal, is_late, is_left_high, length, named-get, named-past, no_rails, not, not-true, shows, slice_get, slice_get_within, suc, sym, val, width, ℕ, ◌&&◌, ◌<◌, ◌∙◌, ◌≡◌}
 use Rattle.ncl_refusal.proofs.HeldFaults.{no_orphan, not_illegal}
 use Rattle.ncl_refusal.proofs.HeldLate.{not_late}
 use Rattle.ncl_refusal.proofs.HeldStage.{IsBeginning, some-data}

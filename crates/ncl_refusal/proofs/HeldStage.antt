@@ -1,41 +1,6 @@
 -- The stage after a bank that holds a word at reset. As long as the bank after the stage asks for DATA, the bank keeps its
 -- word, the stage before it stays empty, and the stage rises.
-use Rattle.std.proofs.Common.{◌≡◌, ℕ, suc, ◌<◌, Bool, true, false, not, ◌&&◌, List, [], ◌∷◌, length, get_or, ◌⊎◌, inl, inr, refl, sym, ap, ◌∙◌, subst, arith}
-use Rattle.std.proofs.lemmas.Bool.{and_parts, and_from, both_ways, cases_Bool, false_from_ne_true, not-true, true_from_ne_false}
-use Rattle.ncl_base.proofs.Members.{Member, here, there, member_cases, recursion_from_members}
-use Rattle.ncl_netlist.specs.declared.ids.NetId.{NetId}
-use Rattle.ncl_netlist.specs.declared.cell.Cell.{Cell}
-use Rattle.ncl_shape.specs.declared.stage.StageCell.{StageCell}
-use Rattle.ncl_shape.specs.declared.item.Item.{Item}
-use Rattle.ncl_shape.specs.declared.item.Item.TheVariants.{Raise}
-use Rattle.ncl_shape.specs.Nets.{Nets, among}
-use Rattle.ncl_shape.specs.Stage.{StageData, IsStage, named_rails, out_of}
-use Rattle.ncl_shape.specs.Pipeline.{PipelineData}
-use Rattle.ncl_shape.specs.Shape.{Shape}
-use Rattle.ncl_shape.proofs.ClosureLaws.{set_of-grows}
-use Rattle.ncl_shape.proofs.PinLaws.{some_high-low}
-use Rattle.ncl_cell_roles.specs.Layout.{no_rails, rail_at, in_rail, out_rail, Layout, IsLayoutOf, TreePart, acks, completes, width, stage_nets}
-use Rattle.ncl_cell_roles.proofs.RailNets.{rail-place, rail-within}
-use Rattle.ncl_faults.specs.declared.variant.Variant.{Variant}
-use Rattle.ncl_faults.specs.declared.variant.Variant.TheVariants.{Base}
-use Rattle.ncl_faults.specs.Values.{holds, kept_low, val}
-use Rattle.ncl_faults.specs.Faults.{has_data}
-use Rattle.ncl_faults.proofs.OnePass.{among-from_member}
-use Rattle.ncl_faults.proofs.ValueLaws.{val-output, val-rail, val-settled, rail-no_output, same_output}
-use Rattle.ncl_machine.specs.State.{State, reset}
-use Rattle.ncl_machine.specs.Steps.{differ, enabled, next_value, step}
-use Rattle.ncl_machine.specs.AtWork.{IsExcited}
-use Rattle.ncl_machine.specs.Run.{IsQuiet, IsRunFrom, after}
-use Rattle.ncl_machine.specs.DelayInsensitive.{IsDelayInsensitive}
-use Rattle.ncl_machine.proofs.AtWorkLaws.{holds-excited}
-use Rattle.ncl_machine.proofs.Completion.{Follows, ReadsNew, one_cell, nets_new, reads-bit, reads-more, turning_is_old, others_are_new}
-use Rattle.ncl_machine.proofs.FallingLaws.{next-from_unfed}
-use Rattle.ncl_machine.proofs.InOrder.{in_order}
-use Rattle.ncl_machine.proofs.LocalNets.{local-at, in_stage, in_tree}
-use Rattle.ncl_machine.proofs.NamedRails.{bit_at, member-from_among, named-has, rail-is_one, rail-data, some-rail}
-use Rattle.ncl_machine.proofs.StageNets.{in_bit, rail-listed, gate-listed, inputs-listed, out-listed, output-listed, tree-listed}
-use Rattle.ncl_insensitivity.proofs.RisingLaws.{IsSupported, excited-from_waiting, waits-from_excited}
-use Rattle.ncl_hazard.proofs.Found.{cells_are}
+use Rattle.ncl_refusal.proofs.Terms.{Base, Bool, Cell, Follows, IsDelayInsensitive, IsExcited, IsLayoutOf, IsQuiet, IsRunFrom, IsStage, IsSupported, Item, Layout, List, Member, NetId, Nets, PipelineData, Raise, ReadsNew, Shape, StageCell, StageData, State, TreePart, Variant, [], acks, after, among, among-from_member, and_from, and_parts, ap, arith, bit_at, both_ways, cases_Bool, cells_are, completes, differ, enabled, excited-from_waiting, false, false_from_ne_true, gate-listed, get_or, has_data, here, holds, holds-excited, in_bit, in_order, in_rail, in_stage, in_tree, inl, inputs-listed, inr, kept_low, length, local-at, member-from_among, member_cases, named-has, named_rails, nets_new, next-from_unfed, next_value, no_rails, not, not-true, one_cell, others_are_new, out-listed, out_of, out_rail, output-listed, rail-data, rail-is_one, rail-listed, rail-no_output, rail-place, rail-within, rail_at, reads-bit, reads-more, recursion_from_members, refl, reset, same_output, set_of-grows, some-rail, some_high-low, stage_nets, step, subst, suc, sym, there, tree-listed, true, true_from_ne_false, turning_is_old, val, val-output, val-rail, val-settled, waits-from_excited, width, ℕ, ◌&&◌, ◌<◌, ◌∙◌, ◌∷◌, ◌≡◌, ◌⊎◌}
 use Rattle.ncl_refusal.proofs.Does.{later, MovesStage, by_gate, by_register, by_source, stage-moves, MovesTree, by_cell, by_take, by_ready, tree-moves}
 use Rattle.ncl_refusal.proofs.Ends as ends
 use Rattle.ncl_refusal.proofs.Reaching.{IsReached, reached-run}

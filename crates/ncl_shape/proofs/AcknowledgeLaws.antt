@@ -1,16 +1,5 @@
 -- Which bank acknowledges which, along a chain.
-use Rattle.std.proofs.Common.{◌≡◌, ℕ, ◌+◌, ◌-◌, ◌<◌, ◌≤◌, List, length, get_or, Some, inl, inr, sym, ap, ◌∙◌, subst, arith}
-use Rattle.std.specs.Prelude.{slice_get}
-use Rattle.std.proofs.lemmas.Bool.{cases_lt}
-use Rattle.std.proofs.lemmas.Option.{slice_get_within}
-use Rattle.ncl_base.proofs.Members.{slice_get-some, slice_get-from_Contains}
-use Rattle.ncl_netlist.specs.declared.ids.NetId.{NetId}
-use Rattle.ncl_netlist.specs.Netlist.{NetlistData, IsNetlist}
-use Rattle.ncl_cell_rules.specs.Free.{IsFree}
-use Rattle.ncl_cell_rules.specs.Origin.{IsInputPort, IsOutputPort, FromPort, AckOf, HasOnlyOrigin, port}
-use Rattle.ncl_cell_rules.proofs.OriginLaws.{port_origin}
-use Rattle.ncl_shape.specs.Chain.{HasEnds, IsChain, IsAcknowledged, IsRoot}
-use Rattle.ncl_shape.specs.ChainSteps.{numbers_of}
+use Rattle.ncl_shape.proofs.Terms.{AckOf, FromPort, HasEnds, HasOnlyOrigin, IsAcknowledged, IsChain, IsFree, IsInputPort, IsNetlist, IsOutputPort, IsRoot, List, NetId, NetlistData, Some, ap, arith, cases_lt, get_or, inl, inr, length, numbers_of, port, port_origin, slice_get, slice_get-from_Contains, slice_get-some, slice_get_within, subst, sym, ℕ, ◌+◌, ◌-◌, ◌<◌, ◌∙◌, ◌≡◌, ◌≤◌}
 use Rattle.ncl_shape.proofs.ChainLaws.{place_in_chain}
 use Rattle.ncl_shape.proofs.Places.{number_of_place}
 

@@ -1,23 +1,5 @@
 -- The banks and the stages of a chain, put together.
-use Rattle.std.proofs.Common.{◌≡◌, ℕ, ◌+◌, ◌<◌, ◌≤◌, List, [], ◌∷◌, Vec, Global, length, map, get_or, Some, refl, sym, ap, ◌∙◌, subst, arith}
-use Rattle.std.specs.Prelude.{slice_get}
-use Rattle.std.specs.List.{AllZip}
-use Rattle.std.proofs.lemmas.List.{get_or-map, length-map}
-use Rattle.std.proofs.lemmas.Option.{slice_get-get_or}
-use Rattle.ncl_base.proofs.Lists.{AllZip-at}
-use Rattle.ncl_netlist.specs.declared.ids.NetId.{NetId}
-use Rattle.ncl_netlist.specs.Netlist.{NetlistData, IsNetlist}
-use Rattle.ncl_cell_rules.specs.Free.{IsFree}
-use Rattle.ncl_shape.specs.declared.bank.TheConstants.{MOST_BANKS}
-use Rattle.ncl_shape.specs.declared.bank.Bank.{Bank}
-use Rattle.ncl_shape.specs.declared.bank.Bit.{Bit}
-use Rattle.ncl_shape.specs.declared.chain.Chain.{Chain}
-use Rattle.ncl_shape.specs.declared.rails.Rails.{Rails}
-use Rattle.ncl_shape.specs.Stage.{StageData}
-use Rattle.ncl_shape.specs.Chain.{IsChain, IsChained, IsRoot}
-use Rattle.ncl_shape.specs.Shape.{AreBitsOf, AreRailsOf, AreInputsOf, Shape}
-use Rattle.ncl_shape.specs.FoundChain.{requests_of, IsChainOf}
-use Rattle.ncl_shape.specs.FoundParts.{AreFewBitsOf, IsFewBitBank, AreStagesOf}
+use Rattle.ncl_shape.proofs.Terms.{AllZip, AllZip-at, AreBitsOf, AreFewBitsOf, AreInputsOf, AreRailsOf, AreStagesOf, Bank, Bit, Chain, Global, IsChain, IsChainOf, IsChained, IsFewBitBank, IsFree, IsNetlist, IsRoot, List, MOST_BANKS, NetId, NetlistData, Rails, Shape, Some, StageData, Vec, [], ap, arith, get_or, get_or-map, length, length-map, map, refl, requests_of, slice_get, slice_get-get_or, subst, sym, ℕ, ◌+◌, ◌<◌, ◌∙◌, ◌∷◌, ◌≡◌, ◌≤◌}
 use Rattle.ncl_shape.proofs.ChainNumbers.{as_many_requests}
 use Rattle.ncl_shape.proofs.ShapeLaws.{requests}
 use Rattle.ncl_shape.proofs.StageLists.{bank_at}

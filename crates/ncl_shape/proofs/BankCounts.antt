@@ -1,9 +1,5 @@
 -- How many banks are reset to DATA, counted along a list.
-use Rattle.std.proofs.Common.{◌≡◌, ℕ, ◌+◌, ◌<◌, ◌≤◌, Bool, true, false, if◌then◌else◌, List, [], ◌∷◌, length, drop, get_or, sym, ap, ◌∙◌, arith}
-use Rattle.std.proofs.lemmas.List.{drop_more}
-use Rattle.std.proofs.Math.ListN.{drop_of_length-le}
-use Rattle.ncl_shape.specs.declared.bank.Bank.{Bank}
-use Rattle.ncl_shape.specs.Held.{is_data_bank, data_banks}
+use Rattle.ncl_shape.proofs.Terms.{Bank, Bool, List, [], ap, arith, data_banks, drop, drop_more, drop_of_length-le, false, get_or, if◌then◌else◌, is_data_bank, length, sym, true, ℕ, ◌+◌, ◌<◌, ◌∙◌, ◌∷◌, ◌≡◌, ◌≤◌}
 
 abbrev counted : Bool → ℕ
 counted b = if b then 1 else 0

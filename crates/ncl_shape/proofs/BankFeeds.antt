@@ -1,17 +1,5 @@
 -- What a bank reads, from its first register cell alone.
-use Rattle.std.proofs.Common.{◌≡◌, ℕ, Option, Some, None, ◌⊎◌, inl, inr, refl}
-use Rattle.ncl_netlist.specs.declared.ids.NetId.{NetId}
-use Rattle.ncl_netlist.specs.declared.cell.Cell.{Cell}
-use Rattle.ncl_netlist.specs.Netlist.{NetlistData, IsNetlist}
-use Rattle.ncl_cell_rules.specs.declared.source.Source.{Source}
-use Rattle.ncl_cell_rules.specs.declared.source.Source.TheVariants.{Port, Rail, Ack, Many}
-use Rattle.ncl_cell_rules.specs.Origin.{OnPin, A, IsInputPort, IsOfBank, Origin, FromPort, RailOf, AckOf, ComesFrom}
-use Rattle.ncl_cell_rules.specs.Free.{IsFree}
-use Rattle.ncl_cell_rules.specs.Sources.{IsSourceOf}
-use Rattle.ncl_cell_rules.proofs.OriginLaws.{place_of, port_origin}
-use Rattle.ncl_cell_rules.proofs.NetOrigins.{one_origin}
-use Rattle.ncl_shape.specs.Chain.{IsInputOf, IsFirstBank, Follows}
-use Rattle.ncl_shape.specs.ChainSteps.{IsFeedOf}
+use Rattle.ncl_shape.proofs.Terms.{A, Ack, AckOf, Cell, ComesFrom, Follows, FromPort, IsFeedOf, IsFirstBank, IsFree, IsInputOf, IsInputPort, IsNetlist, IsOfBank, IsSourceOf, Many, NetId, NetlistData, None, OnPin, Option, Origin, Port, Rail, RailOf, Some, Source, inl, inr, one_origin, place_of, port_origin, refl, ℕ, ◌≡◌, ◌⊎◌}
 use Rattle.ncl_shape.proofs.ChainLaws.{same_rails, first_follows_none}
 
 module _ (n : NetlistData) (is : IsNetlist n) (free : IsFree n) where

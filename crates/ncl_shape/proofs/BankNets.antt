@@ -1,12 +1,5 @@
 -- The requests that name banks are nets.
-use Rattle.std.proofs.Common.{ℕ, ◌<◌, List, length, get_or, refl}
-use Rattle.ncl_netlist.specs.declared.ids.NetId.{NetId}
-use Rattle.ncl_netlist.specs.Netlist.{NetlistData, IsNetlist}
-use Rattle.ncl_cell_rules.specs.Origin.{B, RailOf}
-use Rattle.ncl_cell_rules.proofs.OriginLaws.{bank_of_rail}
-use Rattle.ncl_cell_rules.proofs.PinNumbers.{on_pin_within}
-use Rattle.ncl_shape.specs.Chain.{IsBank, Follows, IsChain}
-use Rattle.ncl_shape.specs.ChainSteps.{numbers_of}
+use Rattle.ncl_shape.proofs.Terms.{B, Follows, IsBank, IsChain, IsNetlist, List, NetId, NetlistData, RailOf, bank_of_rail, get_or, length, numbers_of, on_pin_within, refl, ℕ, ◌<◌}
 use Rattle.ncl_shape.proofs.ChainLaws.{banks_of_chain}
 use Rattle.ncl_shape.proofs.Places.{number_of_place}
 

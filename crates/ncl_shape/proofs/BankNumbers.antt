@@ -1,12 +1,5 @@
 -- The places of banks in a walk, as the table of numbers has them.
-use Rattle.std.proofs.Common.{◌≡◌, ℕ, ◌+◌, ◌<◌, ◌≤◌, List, length, set, replicate, Option, Some, None, inl, inr, sym, ap, ◌∙◌, subst, arith, get_or-set_same, get_or-set_other, length-set}
-use Rattle.std.specs.Prelude.{slice_get}
-use Rattle.std.proofs.lemmas.Bool.{cases_lt, cases_eq}
-use Rattle.std.proofs.lemmas.List.{length-replicate, get_or-replicate, get_or_past}
-use Rattle.std.proofs.lemmas.Option.{slice_get_within}
-use Rattle.ncl_netlist.specs.Netlist.{NetlistData}
-use Rattle.ncl_shape.specs.ChainSteps.{AreNumbersOf}
-use Rattle.ncl_shape.specs.FoundChain.{number_at}
+use Rattle.ncl_shape.proofs.Terms.{AreNumbersOf, List, NetlistData, None, Option, Some, ap, arith, cases_eq, cases_lt, get_or-replicate, get_or-set_other, get_or-set_same, get_or_past, inl, inr, length, length-replicate, length-set, number_at, replicate, set, slice_get, slice_get_within, subst, sym, ℕ, ◌+◌, ◌<◌, ◌∙◌, ◌≡◌, ◌≤◌}
 
 -- the numbers of the banks at the first places
 pub record AreNumbersBelow (n : NetlistData) (banks : List ℕ) (limit : ℕ) (numbers : List (Option ℕ)) : Type 0 where

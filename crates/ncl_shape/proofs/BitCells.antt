@@ -1,20 +1,6 @@
 -- The register cells of a bit of a bank, as they are read: they are there, and have the rails of the bit on Z and its
 -- inputs on A.
-use Rattle.std.proofs.Common.{◌≡◌, ℕ, ◌<◌, List, length, get_or, Some, None, refl, ap, subst, arith}
-use Rattle.std.specs.Prelude.{slice_get}
-use Rattle.std.proofs.lemmas.Option.{slice_get_within}
-use Rattle.ncl_base.proofs.Members.{Contains-from_slice_get}
-use Rattle.ncl_netlist.specs.declared.ids.NetId.{NetId}
-use Rattle.ncl_netlist.specs.declared.cell.Cell.{Cell}
-use Rattle.ncl_netlist.specs.Netlist.{NetlistData, IsNetlist}
-use Rattle.ncl_cell_rules.specs.Origin.{CellAt, IsRegister, OnPin, A}
-use Rattle.ncl_cell_rules.proofs.PinNumbers.{no_net, register_pins, on_pin_of}
-use Rattle.ncl_cell_rules.proofs.TableSteps.{cell_read}
-use Rattle.ncl_shape.specs.declared.bank.Bit.{Bit}
-use Rattle.ncl_shape.specs.declared.rails.Side.{Side}
-use Rattle.ncl_shape.specs.declared.rails.Side.TheVariants.{Driven, Read}
-use Rattle.ncl_shape.specs.FoundParts.{AreOnSide, net_on}
-use Rattle.ncl_shape.specs.Shape.{IsBitOf, AreBitsOf, AreRailsOf, AreInputsOf}
+use Rattle.ncl_shape.proofs.Terms.{A, AreBitsOf, AreInputsOf, AreOnSide, AreRailsOf, Bit, Cell, CellAt, Contains-from_slice_get, Driven, IsBitOf, IsNetlist, IsRegister, List, NetId, NetlistData, None, OnPin, Read, Side, Some, ap, arith, cell_read, get_or, length, net_on, no_net, on_pin_of, refl, register_pins, slice_get, slice_get_within, subst, ℕ, ◌<◌, ◌≡◌}
 use Rattle.ncl_shape.proofs.ShapeLaws.{same_cell}
 
 -- a bit that is none

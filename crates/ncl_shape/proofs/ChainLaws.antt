@@ -1,15 +1,5 @@
 -- The laws of chains of banks: a netlist has one.
-use Rattle.std.proofs.Common.{◌≡◌, ℕ, zero, suc, List, ◌∷◌, Some, ◌⊎◌, inl, inr, refl, sym, ap, subst, ◌∙◌, arith}
-use Rattle.std.specs.Prelude.{Contains, slice_get}
-use Rattle.ncl_netlist.specs.declared.cell.Cell.{Cell}
-use Rattle.ncl_netlist.specs.Netlist.{NetlistData, IsNetlist}
-use Rattle.ncl_cell_rules.specs.Origin.{OnPin, A, IsOfBank, RailOf, ComesFrom, HaveSameOrigins}
-use Rattle.ncl_shape.specs.Chain.{IsBank, IsFirstBank, IsChain, Follows, HasEnds, IsPath, end, next}
-use Rattle.ncl_cell_rules.specs.Free.{IsFree}
-use Rattle.ncl_base.proofs.Members.{slice_get-from_Contains}
-use Rattle.ncl_base.proofs.Lists.{same_from_places}
-use Rattle.ncl_cell_rules.proofs.FirstRegisters.{first_of_bank}
-use Rattle.ncl_cell_rules.proofs.OriginLaws.{place_of, pin_of_register, port_origin}
+use Rattle.ncl_shape.proofs.Terms.{A, Cell, ComesFrom, Contains, Follows, HasEnds, HaveSameOrigins, IsBank, IsChain, IsFirstBank, IsFree, IsNetlist, IsOfBank, IsPath, List, NetlistData, OnPin, RailOf, Some, ap, arith, end, first_of_bank, inl, inr, next, pin_of_register, place_of, port_origin, refl, same_from_places, slice_get, slice_get-from_Contains, subst, suc, sym, zero, ℕ, ◌∙◌, ◌∷◌, ◌≡◌, ◌⊎◌}
 
 -- a list has one head
 pub head_is_one : (banks : List ℕ) (x y : ℕ) → slice_get banks 0 ≡ Some x → slice_get banks 0 ≡ Some y → x ≡ y

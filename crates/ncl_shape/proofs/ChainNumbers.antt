@@ -1,15 +1,5 @@
 -- The numbers of the banks of a chain that was found: each bank has one, and it is its place in the chain.
-use Rattle.std.proofs.Common.{◌≡◌, ℕ, ◌<◌, List, Some, Vec, Global, length, map, sym, ◌∙◌, arith}
-use Rattle.std.specs.Prelude.{slice_get}
-use Rattle.std.specs.List.{AllZip}
-use Rattle.std.proofs.lemmas.List.{length-map}
-use Rattle.std.proofs.lemmas.Option.{slice_get_within}
-use Rattle.ncl_base.proofs.Members.{slice_get-from_Contains}
-use Rattle.ncl_netlist.specs.declared.ids.NetId.{NetId}
-use Rattle.ncl_netlist.specs.Netlist.{NetlistData}
-use Rattle.ncl_shape.specs.declared.chain.Chain.{Chain}
-use Rattle.ncl_shape.specs.Chain.{IsBank}
-use Rattle.ncl_shape.specs.FoundChain.{requests_of, number_at, IsChainOf}
+use Rattle.ncl_shape.proofs.Terms.{AllZip, Chain, Global, IsBank, IsChainOf, List, NetId, NetlistData, Some, Vec, arith, length, length-map, map, number_at, requests_of, slice_get, slice_get-from_Contains, slice_get_within, sym, ℕ, ◌<◌, ◌∙◌, ◌≡◌}
 use Rattle.ncl_shape.proofs.ZippedLists.{AllZip-length}
 
 module _ (n : NetlistData) (c : Chain) (is_chain : IsChainOf n c) where

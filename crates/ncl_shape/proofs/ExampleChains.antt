@@ -1,17 +1,6 @@
 -- Three banks that chain, and three that do not.
-use Rattle.std.proofs.Common.{◌≡◌, ℕ, List, [], ◌∷◌, Some, inl, inr, refl, subst, arith}
-use Rattle.std.specs.Prelude.{Contains, filter, nat_eq, slice_get}
-use Rattle.std.specs.List.{AllByRecursion}
-use Rattle.std.proofs.lemmas.Bool.{eq-eqb}
-use Rattle.ncl_netlist.specs.declared.cell.Cell.{Cell}
-use Rattle.ncl_netlist.specs.Netlist.{NetlistData}
-use Rattle.ncl_cell_rules.specs.Origin.{OnPin, A, B, IsInputPort, RailOf, ComesFrom, rail}
-use Rattle.ncl_shape.specs.Chain.{IsBank, IsInputOf, IsFirstBank, Follows, IsPath, end, next, IsChain, HasChain, SomeRegister, TwoEnds, BreaksInner}
-use Rattle.ncl_shape.specs.Examples.{three, cut}
-use Rattle.ncl_cell_rules.proofs.OriginLaws.{cell_of_rail}
+use Rattle.ncl_shape.proofs.Terms.{A, AllByRecursion, B, BreaksInner, Cell, ComesFrom, Contains, Follows, HasChain, IsBank, IsChain, IsFirstBank, IsInputOf, IsInputPort, IsPath, List, NetlistData, OnPin, RailOf, Some, SomeRegister, TwoEnds, [], arith, bank_test, cell_of_rail, cut, each_of_bank, each_passing, each_register, end, eq-eqb, filter, inl, inr, nat_eq, next, on_pin_each, rail, refl, slice_get, subst, three, ℕ, ◌∷◌, ◌≡◌}
 use Rattle.ncl_shape.proofs.ChainLaws.{head_is_one, head_or_follows}
-use Rattle.ncl_cell_rules.specs.CellTests.{bank_test}
-use Rattle.ncl_cell_rules.proofs.CellTests.{each_passing, each_register, each_of_bank, on_pin_each}
 use Rattle.ncl_shape.proofs.WrittenCells.{cell_of, is_cell, of_bank}
 use Rattle.ncl_shape.proofs.InnerRules.{one_more, none_before}
 

@@ -1,13 +1,5 @@
 -- The fault that a pass answers is that of the netlist: the rules of the passes before it hold.
-use Rattle.ncl_netlist.specs.Netlist.{NetlistData}
-use Rattle.ncl_cell_rules.specs.declared.fault.CellFault.{CellFault}
-use Rattle.ncl_cell_rules.specs.declared.fault.CellFault.TheVariants.{UnusedPort, Cycle, Unpaired, Mixed, Loose, Memory as CellMemory}
-use Rattle.ncl_shape.specs.declared.fault.ShapeFault.{ShapeFault}
-use Rattle.ncl_shape.specs.declared.fault.ShapeFault.TheVariants.{CellRule, NoChain, TooWide, TooLong, Memory}
-use Rattle.ncl_cell_rules.specs.Free.{IsFree}
-use Rattle.ncl_cell_rules.specs.Origins.{ArePortsRead, AreOffCycles, ArePaired, AreUnmixed, IsCellFault}
-use Rattle.ncl_shape.specs.FoundChain.{IsChainFault}
-use Rattle.ncl_shape.specs.Shape.{PortsRead, OffCycles, InPairs, Unmixed, IsShapeFault, shape_fault_of}
+use Rattle.ncl_shape.proofs.Terms.{AreOffCycles, ArePaired, ArePortsRead, AreUnmixed, CellFault, CellMemory, CellRule, Cycle, InPairs, IsCellFault, IsChainFault, IsFree, IsShapeFault, Loose, Memory, Mixed, NetlistData, NoChain, OffCycles, PortsRead, ShapeFault, TooLong, TooWide, Unmixed, Unpaired, UnusedPort, shape_fault_of}
 use Rattle.ncl_shape.proofs.RuleOrder.{RulesBelow, no_rule_below, one_rule_more}
 use Rattle.ncl_shape.proofs.WidthLaws.{rules_before}
 

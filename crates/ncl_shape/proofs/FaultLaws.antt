@@ -1,20 +1,5 @@
 -- The laws of faults of shape: a netlist that has a shape has none, and a netlist has at most one.
-use Rattle.std.proofs.Common.{◌≡◌, ℕ, ◌-◌, ◌<◌, ◌≤◌, List, [], ◌∷◌, length, get_or, Some, inl, inr, refl, sym, ap, subst, ◌∙◌, arith}
-use Rattle.std.specs.Prelude.{slice_get}
-use Rattle.std.proofs.lemmas.Bool.{cases_lt}
-use Rattle.std.proofs.lemmas.List.{length-map}
-use Rattle.std.proofs.lemmas.Option.{slice_get_within}
-use Rattle.ncl_netlist.specs.Netlist.{NetlistData, IsNetlist}
-use Rattle.ncl_shape.specs.declared.bank.Bank.{Bank}
-use Rattle.ncl_cell_rules.specs.declared.fault.CellFault.TheVariants.{UnusedPort, Cycle, Unpaired, Mixed, Loose, Memory as CellMemory}
-use Rattle.ncl_shape.specs.declared.fault.ShapeFault.{ShapeFault}
-use Rattle.ncl_shape.specs.declared.fault.ShapeFault.TheVariants.{CellRule, NoChain, TooWide, TooLong, Memory}
-use Rattle.ncl_cell_rules.specs.Rules.{IsReadPort, IsOffCycles, IsPaired, IsUnmixed, IsTied}
-use Rattle.ncl_shape.specs.Chain.{IsChain, InnerRule, TwoEnds, inner_number, InnerHolds, BreaksInner}
-use Rattle.ncl_shape.specs.Pipeline.{PipelineData}
-use Rattle.ncl_cell_rules.specs.Free.{IsFree, FailsFirst, AtCell}
-use Rattle.ncl_shape.specs.Shape.{IsNarrow, IsShort, AreBitsOf, Shape, Rule, PortsRead, OffCycles, InPairs, Unmixed, Tied, Chained, NarrowBanks, FewBanks, rule_number, RuleHolds, BreaksRule, rule_of, Broken}
-use Rattle.ncl_base.proofs.Members.{slice_get-some}
+use Rattle.ncl_shape.proofs.Terms.{AreBitsOf, AtCell, Bank, BreaksInner, BreaksRule, Broken, CellMemory, CellRule, Chained, Cycle, FailsFirst, FewBanks, InPairs, InnerHolds, InnerRule, IsChain, IsFree, IsNarrow, IsNetlist, IsOffCycles, IsPaired, IsReadPort, IsShort, IsTied, IsUnmixed, List, Loose, Memory, Mixed, NarrowBanks, NetlistData, NoChain, OffCycles, PipelineData, PortsRead, Rule, RuleHolds, Shape, ShapeFault, Some, Tied, TooLong, TooWide, TwoEnds, Unmixed, Unpaired, UnusedPort, [], ap, arith, cases_lt, get_or, inl, inner_number, inr, length, length-map, refl, rule_number, rule_of, slice_get, slice_get-some, slice_get_within, subst, sym, ℕ, ◌-◌, ◌<◌, ◌∙◌, ◌∷◌, ◌≡◌, ◌≤◌}
 use Rattle.ncl_shape.proofs.ChainLaws.{chain_is_one}
 use Rattle.ncl_shape.proofs.RuleOrder.{RulesBelow}
 use Rattle.ncl_shape.proofs.ShapeLaws.{requests, request_at, bits_are_one}

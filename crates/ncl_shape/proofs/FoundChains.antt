@@ -1,13 +1,5 @@
 -- The chain that was found, with its roots and numbers, and what is known of it on the way.
-use Rattle.std.proofs.Common.{◌≡◌, ℕ, List, Option, Some, ap, ◌∙◌, subst}
-use Rattle.std.specs.Prelude.{slice_get, MatchOption}
-use Rattle.std.proofs.lemmas.Option.{MatchOption-at_some}
-use Rattle.ncl_netlist.specs.declared.ids.NetId.{NetId}
-use Rattle.ncl_netlist.specs.Netlist.{NetlistData, IsNetlist}
-use Rattle.ncl_cell_rules.specs.Free.{IsFree}
-use Rattle.ncl_shape.specs.Chain.{HasRegister, HasEnds, IsUnforked, IsChain, IsAcknowledged, HasRoots, IsHead, IsEnd, IsClosed}
-use Rattle.ncl_shape.specs.ChainSteps.{AreNumbersOf, numbers_of}
-use Rattle.ncl_shape.specs.FoundChain.{number_at}
+use Rattle.ncl_shape.proofs.Terms.{AreNumbersOf, HasEnds, HasRegister, HasRoots, IsAcknowledged, IsChain, IsClosed, IsEnd, IsFree, IsHead, IsNetlist, IsUnforked, List, MatchOption, MatchOption-at_some, NetId, NetlistData, Option, Some, ap, number_at, numbers_of, slice_get, subst, ℕ, ◌∙◌, ◌≡◌}
 use Rattle.ncl_shape.proofs.ChainLaws.{place_in_chain}
 
 -- each bank of a chain has its place as its number, as it stands at no other

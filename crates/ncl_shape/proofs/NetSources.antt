@@ -1,13 +1,5 @@
 -- The source of a net says where it comes from, as each net has one origin.
-use Rattle.std.proofs.Common.{◌≡◌, ℕ, Some, refl}
-use Rattle.ncl_netlist.specs.Netlist.{NetlistData, IsNetlist}
-use Rattle.ncl_cell_rules.specs.declared.source.Source.{Source}
-use Rattle.ncl_cell_rules.specs.Free.{IsFree}
-use Rattle.ncl_cell_rules.specs.Origin.{Origin, ComesFrom, HasOnlyOrigin}
-use Rattle.ncl_cell_rules.specs.Sources.{IsSourceOf}
-use Rattle.ncl_cell_rules.proofs.NetOrigins.{one_origin}
-use Rattle.ncl_cell_rules.proofs.SourceSteps.{source_from_only}
-use Rattle.ncl_cell_rules.proofs.Summaries.{named, named_is_one}
+use Rattle.ncl_shape.proofs.Terms.{ComesFrom, HasOnlyOrigin, IsFree, IsNetlist, IsSourceOf, NetlistData, Origin, Some, Source, named, named_is_one, one_origin, refl, source_from_only, ℕ, ◌≡◌}
 
 module _ (n : NetlistData) (is : IsNetlist n) (free : IsFree n) where
   -- an origin of a net is its only one

@@ -1,6 +1,5 @@
 -- Rules that are asked one after the other, each with its number, from 1.
-use Rattle.std.proofs.Common.{◌≡◌, ℕ, ◌+◌, ◌-◌, ◌<◌, List, get_or, inl, inr, sym, ap, subst, ◌∙◌, arith}
-use Rattle.std.proofs.lemmas.Bool.{cases_lt}
+use Rattle.ncl_shape.proofs.Terms.{List, ap, arith, cases_lt, get_or, inl, inr, subst, sym, ℕ, ◌+◌, ◌-◌, ◌<◌, ◌∙◌, ◌≡◌}
 
 module _ (Rule : Type 0) (number : Rule → ℕ) (Holds : Rule → Type 0) where
   -- the rules below a number hold

@@ -1,12 +1,5 @@
 -- The only net of which something holds, and the only net that stands in a relation to each bank, found net by net.
-use Rattle.std.proofs.Common.{◌≡◌, ℕ, ◌+◌, ◌<◌, ◌≤◌, Bool, true, false, cond, List, ◌++◌, length, set, replicate, take, drop, Option, Some, None, is_some, inl, inr, refl, sym, ap, ◌∙◌, subst, arith, get_or-set_same, get_or-set_other, length-set}
-use Rattle.std.specs.Prelude.{MatchOption}
-use Rattle.std.proofs.lemmas.Bool.{cases_lt, cases_eq, both_ways}
-use Rattle.std.proofs.lemmas.List.{length-replicate, get_or-replicate, take_at}
-use Rattle.ncl_netlist.specs.declared.ids.NetId.{NetId}
-use Rattle.ncl_netlist.specs.Netlist.{NetlistData}
-use Rattle.ncl_shape.specs.Chain.{HasOne}
-use Rattle.ncl_shape.specs.ChainSteps.{IsOnly, IsOnlyOf, AreOnly, HasMore, net_at}
+use Rattle.ncl_shape.proofs.Terms.{AreOnly, Bool, HasMore, HasOne, IsOnly, IsOnlyOf, List, MatchOption, NetId, NetlistData, None, Option, Some, ap, arith, both_ways, cases_eq, cases_lt, cond, drop, false, get_or-replicate, get_or-set_other, get_or-set_same, inl, inr, is_some, length, length-replicate, length-set, net_at, refl, replicate, set, subst, sym, take, take_at, true, ℕ, ◌++◌, ◌+◌, ◌<◌, ◌∙◌, ◌≡◌, ◌≤◌}
 
 -- of the nets below a limit the only one of which P holds
 pub record IsOnlyBelow (P : ℕ → Type 0) (limit : ℕ) (net : NetId) : Type 0 where

@@ -1,13 +1,5 @@
 -- The values at the input pins of a cell, from the values of its nets.
-use Rattle.std.proofs.Common.{◌≡◌, true, false, List, [], ◌∷◌, Some, inl, inr, refl, ap}
-use Rattle.std.specs.Prelude.{slice_get}
-use Rattle.std.proofs.lemmas.Bool.{and_from, or_cases, or_from, or_left, or_right, both_ways}
-use Rattle.ncl_gates.specs.Gate.{some_high}
-use Rattle.ncl_gates.specs.GateLaw.{all_high}
-use Rattle.ncl_netlist.specs.declared.ids.NetId.{NetId}
-use Rattle.ncl_shape.specs.Nets.{Nets}
-use Rattle.ncl_shape.specs.Closure.{pin_values, first_pin}
-use Rattle.ncl_base.proofs.Members.{Member, here, there}
+use Rattle.ncl_shape.proofs.Terms.{List, Member, NetId, Nets, Some, [], all_high, and_from, ap, both_ways, false, first_pin, here, inl, inr, or_cases, or_from, or_left, or_right, pin_values, refl, slice_get, some_high, there, true, ◌∷◌, ◌≡◌}
 
 -- some pin is high where the net on it is
 pub some_high-from : (v : Nets) (net : NetId) {ins : List NetId} → Member net ins → v net.0 ≡ true → some_high (pin_values v ins) ≡ true

@@ -1,9 +1,5 @@
 -- What stands at the places of a list, and entries that are missing.
-use Rattle.std.proofs.Common.{◌≡◌, ℕ, zero, suc, ◌<◌, List, [], ◌∷◌, Bool, false, not, length, get_or, Option, Some, None, is_some, refl, ap, ◌∙◌, arith}
-use Rattle.std.specs.Prelude.{slice_get}
-use Rattle.std.proofs.lemmas.Bool.{both_ways}
-use Rattle.ncl_netlist.specs.declared.ids.NetId.{NetId}
-use Rattle.ncl_shape.specs.ChainSteps.{numbers_of}
+use Rattle.ncl_shape.proofs.Terms.{Bool, List, NetId, None, Option, Some, [], ap, arith, both_ways, false, get_or, is_some, length, not, numbers_of, refl, slice_get, suc, zero, ℕ, ◌<◌, ◌∙◌, ◌∷◌, ◌≡◌}
 
 -- the number of the net at a place, and back
 pub number_of_place : (nets : List NetId) (k : ℕ) (d : NetId) → k < length nets → slice_get (numbers_of nets) k ≡ Some (get_or nets k d).0

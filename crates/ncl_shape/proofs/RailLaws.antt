@@ -1,23 +1,5 @@
 -- The rails of a bank: two for each bit, of which each of its register cells drives one, and they differ.
-use Rattle.std.proofs.Common.{◌≡◌, ◌≢◌, ℕ, ◌*◌, ◌<◌, ◌≤◌, List, [], ◌∷◌, length, inl, inr, ◌⊎◌, refl, sym, ap, ◌∙◌, subst, arith, Bool, true, false}
-use Rattle.std.specs.Prelude.{AllPairs, Contains}
-use Rattle.std.specs.List.{AllZip}
-use Rattle.std.proofs.lemmas.List.Kept.{AllPairs-cons}
-use Rattle.std.proofs.lemmas.List.Elements.{All-cons}
-use Rattle.ncl_base.proofs.Members.{Member, here, there, Contains-from_Member, Member-from_Contains, slice_get-from_Contains, All-from_members}
-use Rattle.ncl_base.proofs.Lists.{pairs-head, pairs-tail}
-use Rattle.ncl_netlist.specs.declared.ids.NetId.{NetId}
-use Rattle.ncl_netlist.specs.declared.cell.Cell.{Cell}
-use Rattle.ncl_netlist.specs.Netlist.{NetlistData, IsNetlist}
-use Rattle.ncl_cell_rules.specs.Origin.{OnPin, A, B, IsOfBank}
-use Rattle.ncl_cell_rules.specs.Free.{IsFree}
-use Rattle.ncl_cell_rules.proofs.AckPins.{ack_pin_is_one, ack_of_register}
-use Rattle.ncl_cell_rules.proofs.CellTests.{same_net}
-use Rattle.ncl_shape.specs.declared.bank.Bit.{Bit}
-use Rattle.ncl_shape.specs.declared.rails.Rails.{Rails}
-use Rattle.ncl_shape.specs.Stage.{rail_nets, rail_of}
-use Rattle.ncl_shape.specs.Chain.{IsBank}
-use Rattle.ncl_shape.specs.Shape.{IsBitOf, AreBitsOf, AreRailsOf}
+use Rattle.ncl_shape.proofs.Terms.{A, All-cons, All-from_members, AllPairs, AllPairs-cons, AllZip, AreBitsOf, AreRailsOf, B, Bit, Bool, Cell, Contains, Contains-from_Member, IsBank, IsBitOf, IsFree, IsNetlist, IsOfBank, List, Member, Member-from_Contains, NetId, NetlistData, OnPin, Rails, [], ack_of_register, ack_pin_is_one, ap, arith, false, here, inl, inr, length, pairs-head, pairs-tail, rail_nets, rail_of, refl, same_net, slice_get-from_Contains, subst, sym, there, true, ℕ, ◌*◌, ◌<◌, ◌∙◌, ◌∷◌, ◌≡◌, ◌≢◌, ◌≤◌, ◌⊎◌}
 use Rattle.ncl_shape.proofs.ShapeLaws.{same_cell}
 use Rattle.ncl_shape.proofs.ZippedLists.{AllZip-find, AllZip-found}
 

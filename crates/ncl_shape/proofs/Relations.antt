@@ -1,10 +1,5 @@
 -- The nets that follow banks, or are roots of them: where they stand, and of which bank.
-use Rattle.std.proofs.Common.{◌≡◌, ℕ, ◌<◌, length}
-use Rattle.ncl_netlist.specs.Netlist.{NetlistData, IsNetlist}
-use Rattle.ncl_cell_rules.specs.Free.{IsFree}
-use Rattle.ncl_shape.specs.declared.chain.Relation.{Relation}
-use Rattle.ncl_shape.specs.declared.chain.Relation.TheVariants.{Follower, Root}
-use Rattle.ncl_shape.specs.FoundChain.{Relates}
+use Rattle.ncl_shape.proofs.Terms.{Follower, IsFree, IsNetlist, NetlistData, Relates, Relation, Root, length, ℕ, ◌<◌, ◌≡◌}
 use Rattle.ncl_shape.proofs.ChainLaws.{one_before}
 use Rattle.ncl_shape.proofs.BankNets.{follower_within, followed_within}
 use Rattle.ncl_shape.proofs.RootLaws.{root_within, rooted_within, bank_of_root_is_one}

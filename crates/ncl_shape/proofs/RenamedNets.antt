@@ -1,13 +1,5 @@
 -- The nets of a stage whose nets have other numbers are those of the stage, renamed.
-use Rattle.std.proofs.Common.{◌≡◌, ℕ, List, [], ◌∷◌, ◌++◌, map, refl, sym, ap, ◌∙◌}
-use Rattle.std.specs.Prelude.{Contains}
-use Rattle.std.specs.List.{AllZip}
-use Rattle.std.proofs.lemmas.List.{map-append}
-use Rattle.ncl_base.proofs.Members.{Member-map, Contains-from_Member, Member-from_Contains}
-use Rattle.ncl_shape.specs.declared.rails.Rails.{Rails}
-use Rattle.ncl_shape.specs.declared.stage.StageCell.{StageCell}
-use Rattle.ncl_shape.specs.Stage.{rail_nets, nets_of, out_of}
-use Rattle.ncl_shape.specs.Renamed.{renamed_net, renamed_rails, IsRenamedCell}
+use Rattle.ncl_shape.proofs.Terms.{AllZip, Contains, Contains-from_Member, IsRenamedCell, List, Member-from_Contains, Member-map, Rails, StageCell, [], ap, map, map-append, nets_of, out_of, rail_nets, refl, renamed_net, renamed_rails, sym, ℕ, ◌++◌, ◌∙◌, ◌∷◌, ◌≡◌}
 
 module _ (to : ℕ → ℕ) where
   pub rail_nets-renamed : (rs : List Rails) → rail_nets (map (renamed_rails to) rs) ≡ map to (rail_nets rs)

@@ -1,20 +1,6 @@
 -- The roots of the banks of a chain.
-use Rattle.std.proofs.Common.{◌≡◌, ℕ, ◌+◌, ◌<◌, List, [], ◌∷◌, ◌++◌, length, get_or, Option, None, Some, inl, inr, sym, ap, ◌∙◌, subst, arith}
-use Rattle.std.specs.Prelude.{Contains, slice_get}
-use Rattle.std.proofs.lemmas.Bool.{cases_lt}
-use Rattle.std.proofs.lemmas.List.{length_push}
-use Rattle.std.proofs.lemmas.Option.{slice_get_within}
-use Rattle.ncl_base.proofs.Members.{slice_get-some, slice_get-from_Contains, Contains-from_slice_get}
-use Rattle.ncl_base.proofs.Places.{slice_get-kept, slice_get-end}
-use Rattle.ncl_netlist.specs.declared.ids.NetId.{NetId}
-use Rattle.ncl_netlist.specs.Netlist.{NetlistData, IsNetlist}
-use Rattle.ncl_cell_rules.specs.Free.{IsFree}
-use Rattle.ncl_cell_rules.specs.Origin.{AckOf}
-use Rattle.ncl_cell_rules.proofs.NetOrigins.{one_origin, bank_of_ack_net}
-use Rattle.ncl_cell_rules.proofs.OriginLaws.{origin_within}
+use Rattle.ncl_shape.proofs.Terms.{AckOf, AreOnly, AreRootsOf, Contains, Contains-from_slice_get, HasMore, HasOne, HasRoots, IsAcknowledged, IsChain, IsFree, IsNetlist, IsOnly, IsOnlyOf, IsRoot, List, NetId, NetlistData, None, Option, Some, [], ap, arith, bank_of_ack_net, cases_lt, get_or, inl, inr, length, length_push, net_at, numbers_of, one_origin, origin_within, slice_get, slice_get-end, slice_get-from_Contains, slice_get-kept, slice_get-some, slice_get_within, subst, sym, ℕ, ◌++◌, ◌+◌, ◌<◌, ◌∙◌, ◌∷◌, ◌≡◌}
 use Rattle.ncl_shape.proofs.BankNets.{bank_within, chain_within}
-use Rattle.ncl_shape.specs.Chain.{HasOne, IsRoot, IsChain, HasRoots, IsAcknowledged}
-use Rattle.ncl_shape.specs.ChainSteps.{IsOnly, HasMore, AreOnly, IsOnlyOf, AreRootsOf, numbers_of, net_at}
 use Rattle.ncl_shape.proofs.AcknowledgeLaws.{first_root_is_port}
 use Rattle.ncl_shape.proofs.Places.{number_of_place, net_of_place}
 

@@ -1,13 +1,6 @@
 -- What rounds give: they keep what is high, each net that rises is the output of a cell that raises it, and
 -- after as many rounds as cells nothing rises any more.
-use Rattle.std.proofs.Common.{◌≡◌, ℕ, zero, suc, ◌+◌, ◌≤◌, Bool, true, false, not, ◌&&◌, List, [], ◌∷◌, length, ◌⊎◌, inl, inr, refl, sym, ap, subst, arith}
-use Rattle.std.proofs.Math.Path.{fun_ext}
-use Rattle.std.specs.Prelude.{nat_eq}
-use Rattle.std.specs.List.{list_any}
-use Rattle.std.proofs.lemmas.Bool.{cases_Bool, or_cases, or_left, or_right, and_parts, and_from, eqb-true, eq-eqb, both_ways, not-true, not_from_false}
-use Rattle.ncl_shape.specs.Nets.{Nets, IsBelow, round, rounds}
-use Rattle.ncl_base.proofs.Members.{Member, here, there, list_any-from_member, member_from_list_any}
-use Rattle.ncl_base.proofs.Tests.{same_from_both}
+use Rattle.ncl_shape.proofs.Terms.{Bool, IsBelow, List, Member, Nets, [], and_from, and_parts, ap, arith, both_ways, cases_Bool, eq-eqb, eqb-true, false, fun_ext, here, inl, inr, length, list_any, list_any-from_member, member_from_list_any, nat_eq, not, not-true, not_from_false, or_cases, or_left, or_right, refl, round, rounds, same_from_both, subst, suc, sym, there, true, zero, ℕ, ◌&&◌, ◌+◌, ◌∷◌, ◌≡◌, ◌≤◌, ◌⊎◌}
 
 -- 0 for a net that is high, 1 for one that is low
 abbrev low_count : Bool → ℕ

@@ -1,7 +1,5 @@
 -- The rules of shape one after the other: those below a number, and one more.
-use Rattle.std.proofs.Common.{◌≡◌, ℕ, ◌+◌, ◌-◌, List, [], ◌∷◌, get_or, refl}
-use Rattle.ncl_netlist.specs.Netlist.{NetlistData}
-use Rattle.ncl_shape.specs.Shape.{Rule, PortsRead, OffCycles, InPairs, Unmixed, Tied, Chained, NarrowBanks, FewBanks, rule_number, RuleHolds}
+use Rattle.ncl_shape.proofs.Terms.{Chained, FewBanks, InPairs, List, NarrowBanks, NetlistData, OffCycles, PortsRead, Rule, RuleHolds, Tied, Unmixed, [], get_or, refl, rule_number, ℕ, ◌+◌, ◌-◌, ◌∷◌, ◌≡◌}
 use Rattle.ncl_shape.proofs.NumberedRules.{HoldBelow, none_below, one_more_below}
 
 abbrev pub RulesBelow : NetlistData → ℕ → Type 0

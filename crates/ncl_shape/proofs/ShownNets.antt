@@ -1,21 +1,8 @@
 -- What the pipeline shows outside, cell by cell and port by port.
-use Rattle.std.proofs.Common.{◌≡◌, ℕ, ◌-◌, ◌≤◌, Bool, true, not, nat_eq, List, length, get_or, Some, inl, inr, refl, sym, ap, ◌∙◌, subst, arith}
-use Rattle.std.specs.Prelude.{slice_get}
-use Rattle.std.proofs.lemmas.Bool.{both_ways, eq-eqb}
-use Rattle.std.proofs.lemmas.List.{length-map}
-use Rattle.std.proofs.lemmas.Option.{slice_get_within, slice_get-get_or}
-use Rattle.ncl_base.proofs.Members.{Contains-from_slice_get}
-use Rattle.ncl_gates.proofs.RegisterLaws.{register_no_gate}
-use Rattle.ncl_netlist.specs.declared.ids.NetId.{NetId}
-use Rattle.ncl_netlist.specs.declared.cell.Cell.{Cell}
-use Rattle.ncl_netlist.specs.Netlist.{NetlistData, IsNetlist}
-use Rattle.ncl_cell_rules.specs.Origin.{IsCell, IsOfBank, IsOutputPort, RailOf, ComesFrom, rail}
-use Rattle.ncl_cell_rules.proofs.OriginLaws.{sort_of, register_origin, ack_origin, cell_of_rail}
-use Rattle.ncl_shape.specs.Chain.{HasOne, IsRoot, HasRoots, IsClosed, IsChain, IsHead, IsEnd}
-use Rattle.ncl_shape.specs.ChainSteps.{IsShownCell, IsShownPort, AreRootsOf, numbers_of}
+use Rattle.ncl_shape.proofs.Terms.{AreRootsOf, Bool, Cell, ComesFrom, Contains-from_slice_get, HasOne, HasRoots, IsCell, IsChain, IsClosed, IsEnd, IsHead, IsNetlist, IsOfBank, IsOutputPort, IsRoot, IsShownCell, IsShownPort, List, NetId, NetlistData, RailOf, Some, ack_origin, ap, arith, both_ways, cell_of_rail, eq-eqb, get_or, inl, inr, length, length-map, no_net, not, numbers_of, rail, refl, register_no_gate, register_origin, slice_get, slice_get-get_or, slice_get_within, sort_of, subst, sym, true, ℕ, ◌-◌, ◌∙◌, ◌≡◌, ◌≤◌}
+use Rattle.std.proofs.Common.{nat_eq}
 use Rattle.ncl_shape.proofs.ChainLaws.{head_is_one, head_of_path}
 use Rattle.ncl_shape.proofs.Places.{number_of_place}
-use Rattle.ncl_cell_rules.proofs.PinNumbers.{no_net}
 
 module _ (n : NetlistData) (is : IsNetlist n) (first last root : ℕ) (is_root : IsRoot n first root) where
   -- where each cell and each port is shown the pipeline is closed

@@ -1,18 +1,5 @@
 -- The stages between the banks, made one by one.
-use Rattle.std.proofs.Common.{◌≡◌, ℕ, suc, ◌+◌, ◌<◌, ◌≤◌, List, [], ◌∷◌, ◌++◌, Vec, Global, length, map, get_or, Some, inl, inr, sym, ap, ◌∙◌, subst, arith}
-use Rattle.std.specs.Prelude.{slice_get}
-use Rattle.std.specs.List.{AllZip}
-use Rattle.std.proofs.lemmas.Bool.{cases_lt}
-use Rattle.std.proofs.lemmas.List.{length_push, length-map, get_or-map, get_or_push, get_or_append_left}
-use Rattle.std.proofs.lemmas.Option.{slice_get_within, slice_get-get_or, get_or_from_slice_get}
-use Rattle.ncl_base.proofs.Lists.{AllZip-at}
-use Rattle.ncl_netlist.specs.Netlist.{NetlistData}
-use Rattle.ncl_shape.specs.declared.bank.Bank.{Bank}
-use Rattle.ncl_shape.specs.declared.stage.StageCell.{StageCell}
-use Rattle.ncl_shape.specs.Stage.{StageData}
-use Rattle.ncl_shape.specs.Chain.{Follows, IsPath}
-use Rattle.ncl_shape.specs.Shape.{IsStageOf}
-use Rattle.ncl_shape.specs.FoundParts.{AreGatesOf, AreStagesOf, IsFewBitBank}
+use Rattle.ncl_shape.proofs.Terms.{AllZip, AllZip-at, AreGatesOf, AreStagesOf, Bank, Follows, Global, IsFewBitBank, IsPath, IsStageOf, List, NetlistData, Some, StageCell, StageData, Vec, [], ap, arith, cases_lt, get_or, get_or-map, get_or_append_left, get_or_from_slice_get, get_or_push, inl, inr, length, length-map, length_push, map, slice_get, slice_get-get_or, slice_get_within, subst, suc, sym, ℕ, ◌++◌, ◌+◌, ◌<◌, ◌∙◌, ◌∷◌, ◌≡◌, ◌≤◌}
 use Rattle.ncl_shape.proofs.ChainLaws.{follows_at}
 use Rattle.ncl_shape.proofs.ShapeLaws.{requests, request_at}
 use Rattle.ncl_shape.proofs.ZippedLists.{AllZip-length}

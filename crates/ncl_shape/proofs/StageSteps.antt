@@ -1,32 +1,5 @@
 -- The gate cells of a bank, found one by one in an order of the netlist's cells.
-use Rattle.std.proofs.Common.{◌≡◌, ◌≢◌, ℕ, ◌+◌, ◌<◌, List, [], ◌∷◌, ◌++◌, length, map, get_or, take, drop, set, replicate, Some, inl, inr, ◌⊎◌, sym, ap, ◌∙◌, subst, arith}
-use Rattle.std.specs.Prelude.{AllPairs, Contains, slice_get}
-use Rattle.std.specs.List.{AllZip}
-use Rattle.std.proofs.lemmas.List.{take_more}
-use Rattle.std.proofs.lemmas.Option.{slice_get-get_or, slice_get_within}
-use Rattle.std.proofs.lemmas.List.Quantifiers.{all_pairs_push}
-use Rattle.std.proofs.lemmas.List.Elements.{Contains-append_left, All-contains}
-use Rattle.ncl_base.proofs.Members.{Member-map, Member-append_left, Member-append_right, Contains-from_Member, Member-from_Contains, Contains-from_slice_get, slice_get-from_Contains, All-from_members}
-use Rattle.ncl_base.proofs.Growing.{at_push, from_push, Contains-last, split_push, cut_at}
-use Rattle.ncl_gates.specs.declared.kind.Kind.{Kind}
-use Rattle.ncl_gates.specs.declared.cell_kind.CellKind.TheVariants.{Gate}
-use Rattle.ncl_netlist.specs.declared.ids.NetId.{NetId}
-use Rattle.ncl_netlist.specs.declared.cell.Cell.{Cell}
-use Rattle.ncl_netlist.specs.Netlist.{NetlistData, IsNetlist}
-use Rattle.ncl_cell_rules.specs.Origin.{IsCell, CellAt, IsGate, ReadsNet, IsOfBank, RailOf, ComesFrom, gate}
-use Rattle.ncl_cell_rules.specs.Free.{IsFree}
-use Rattle.ncl_cell_rules.specs.GateGraph.{Drives}
-use Rattle.ncl_cell_rules.specs.CellOrder.{IsCellOrder}
-use Rattle.ncl_cell_rules.proofs.Drivers.{driver_of, cell_fits}
-use Rattle.ncl_cell_rules.proofs.OriginLaws.{place_of, port_origin, register_origin, ack_origin, has_origin, sort_of}
-use Rattle.ncl_cell_rules.proofs.NetOrigins.{one_origin}
-use Rattle.ncl_cell_rules.proofs.OrderSteps.{new_at}
-use Rattle.ncl_shape.specs.declared.bank.Bit.{Bit}
-use Rattle.ncl_shape.specs.declared.rails.Rails.{Rails}
-use Rattle.ncl_shape.specs.declared.stage.StageCell.{StageCell}
-use Rattle.ncl_shape.specs.Stage.{rail_nets, out_of, nets_of, Reads, IsInOrder}
-use Rattle.ncl_shape.specs.Shape.{AreBitsOf, AreRailsOf, IsGateOf}
-use Rattle.ncl_shape.specs.FoundParts.{AreGatesOf}
+use Rattle.ncl_shape.proofs.Terms.{All-contains, All-from_members, AllPairs, AllZip, AreBitsOf, AreGatesOf, AreRailsOf, Bit, Cell, CellAt, ComesFrom, Contains, Contains-append_left, Contains-from_Member, Contains-from_slice_get, Contains-last, Drives, Gate, IsCell, IsCellOrder, IsFree, IsGate, IsGateOf, IsInOrder, IsNetlist, IsOfBank, Kind, List, Member-append_left, Member-append_right, Member-from_Contains, Member-map, NetId, NetlistData, RailOf, Rails, Reads, ReadsNet, Some, StageCell, [], ack_origin, all_pairs_push, ap, arith, at_push, cell_fits, cut_at, driver_of, drop, from_push, gate, get_or, has_origin, inl, inr, length, map, nets_of, new_at, one_origin, out_of, place_of, port_origin, rail_nets, register_origin, replicate, set, slice_get, slice_get-from_Contains, slice_get-get_or, slice_get_within, sort_of, split_push, subst, sym, take, take_more, ℕ, ◌++◌, ◌+◌, ◌<◌, ◌∙◌, ◌∷◌, ◌≡◌, ◌≢◌, ◌⊎◌}
 use Rattle.ncl_shape.proofs.ShapeLaws.{same_cell}
 use Rattle.ncl_shape.proofs.RailLaws.{rail_of_register}
 use Rattle.ncl_shape.proofs.ZippedLists.{AllZip-same, AllZip-begin, AllZip-set}

@@ -1,18 +1,5 @@
 -- The walk along the banks that follow each other: it is the chain where it meets each bank, and a chain agrees with it.
-use Rattle.std.proofs.Common.{◌≡◌, ℕ, zero, suc, ◌+◌, ◌<◌, ◌≤◌, List, [], ◌∷◌, ◌++◌, length, get_or, Option, Some, inl, inr, refl, sym, ap, ◌∙◌, subst, arith}
-use Rattle.std.specs.Prelude.{All, slice_get}
-use Rattle.std.proofs.lemmas.Bool.{cases_lt}
-use Rattle.std.proofs.lemmas.Option.{slice_get_within, slice_get-get_or}
-use Rattle.std.proofs.lemmas.List.{map-append, length-map, length_push}
-use Rattle.std.proofs.lemmas.List.Elements.{All-push}
-use Rattle.ncl_base.proofs.Members.{Member, member_cases, All-from_members, slice_get-some, slice_get-from_Contains, Contains-from_slice_get}
-use Rattle.ncl_base.proofs.Growing.{no_more_than}
-use Rattle.ncl_base.proofs.Places.{slice_get-kept, slice_get-end}
-use Rattle.ncl_netlist.specs.declared.ids.NetId.{NetId}
-use Rattle.ncl_netlist.specs.Netlist.{NetlistData, IsNetlist}
-use Rattle.ncl_cell_rules.specs.Free.{IsFree}
-use Rattle.ncl_shape.specs.Chain.{IsFirstBank, Follows, IsUnforked, HasChain, IsPath, end, next, IsChain}
-use Rattle.ncl_shape.specs.ChainSteps.{IsWalk, AreNumbersOf, AreAllNumbered, numbers_of}
+use Rattle.ncl_shape.proofs.Terms.{All, All-from_members, All-push, AreAllNumbered, AreNumbersOf, Contains-from_slice_get, Follows, HasChain, IsChain, IsFirstBank, IsFree, IsNetlist, IsPath, IsUnforked, IsWalk, List, Member, NetId, NetlistData, Option, Some, [], ap, arith, cases_lt, end, get_or, inl, inr, length, length-map, length_push, map-append, member_cases, next, no_more_than, numbers_of, refl, slice_get, slice_get-end, slice_get-from_Contains, slice_get-get_or, slice_get-kept, slice_get-some, slice_get_within, subst, suc, sym, zero, ℕ, ◌++◌, ◌+◌, ◌<◌, ◌∙◌, ◌∷◌, ◌≡◌, ◌≤◌}
 use Rattle.ncl_shape.proofs.ChainLaws.{head_is_one, follows_at, banks_of_chain, place_in_chain}
 use Rattle.ncl_shape.proofs.BankNets.{bank_within}
 

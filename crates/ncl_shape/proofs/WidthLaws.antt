@@ -1,19 +1,5 @@
 -- The seventh and the eighth rule of shape, by the bits that were found for each bank of a chain.
-use Rattle.std.proofs.Common.{◌≡◌, ℕ, ◌+◌, ◌-◌, ◌<◌, ◌≤◌, List, [], length, get_or, Some, inl, inr, ap, subst, arith}
-use Rattle.std.specs.Prelude.{slice_get}
-use Rattle.std.specs.List.{AllZip}
-use Rattle.std.proofs.lemmas.Bool.{cases_lt}
-use Rattle.std.proofs.lemmas.List.{get_or_past}
-use Rattle.ncl_base.specs.declared.word.TheConstants.{MOST_BITS}
-use Rattle.ncl_base.proofs.Members.{slice_get-some}
-use Rattle.ncl_netlist.specs.Netlist.{NetlistData, IsNetlist}
-use Rattle.ncl_shape.specs.declared.fault.ShapeFault.TheVariants.{TooWide, TooLong}
-use Rattle.ncl_cell_rules.specs.Free.{IsFree, FailsFirst}
-use Rattle.ncl_shape.specs.declared.bank.TheConstants.{MOST_BANKS}
-use Rattle.ncl_shape.specs.declared.bank.Bit.{Bit}
-use Rattle.ncl_shape.specs.Chain.{IsChain, SomeRegister, TwoEnds, NoFork, IsChained}
-use Rattle.ncl_shape.specs.Shape.{AreBitsOf, IsNarrow, PortsRead, OffCycles, InPairs, Unmixed, Tied, Chained, NarrowBanks, RuleHolds, Broken}
-use Rattle.ncl_base.proofs.Lists.{AllZip-at}
+use Rattle.ncl_shape.proofs.Terms.{AllZip, AllZip-at, AreBitsOf, Bit, Broken, Chained, FailsFirst, InPairs, IsChain, IsChained, IsFree, IsNarrow, IsNetlist, List, MOST_BANKS, MOST_BITS, NarrowBanks, NetlistData, NoFork, OffCycles, PortsRead, RuleHolds, Some, SomeRegister, Tied, TooLong, TooWide, TwoEnds, Unmixed, [], ap, arith, cases_lt, get_or, get_or_past, inl, inr, length, slice_get, slice_get-some, subst, ℕ, ◌+◌, ◌-◌, ◌<◌, ◌≡◌, ◌≤◌}
 use Rattle.ncl_shape.proofs.InnerRules.{of_each_chain}
 use Rattle.ncl_shape.proofs.RuleOrder.{RulesBelow, no_rule_below, one_rule_more}
 use Rattle.ncl_shape.proofs.ShapeLaws.{bits_are_one}

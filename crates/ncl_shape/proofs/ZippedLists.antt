@@ -1,9 +1,5 @@
 -- Two lists side by side, what holds of each two elements, and one of the second changed.
-use Rattle.std.proofs.Common.{◌≡◌, ◌≢◌, ℕ, zero, suc, ◌+◌, ◌<◌, List, [], ◌∷◌, ◌++◌, length, get_or, take, set, replicate, Some, refl, sym, subst, arith}
-use Rattle.std.specs.Prelude.{slice_get}
-use Rattle.std.specs.List.{AllZip}
-use Rattle.std.proofs.lemmas.List.{take_more}
-use Rattle.ncl_base.proofs.Members.{Member, here, there}
+use Rattle.ncl_shape.proofs.Terms.{AllZip, List, Member, Some, [], arith, get_or, here, length, refl, replicate, set, slice_get, subst, suc, sym, take, take_more, there, zero, ℕ, ◌++◌, ◌+◌, ◌<◌, ◌∷◌, ◌≡◌, ◌≢◌}
 
 pub AllZip-same : {X Y : Type 0} (P Q : X → Y → Type 0) (xs : List X) (ys : List Y) → AllZip P xs ys → ((k : ℕ) (x : X) (y : Y) → slice_get xs k ≡ Some x → P x y → Q x y) → AllZip Q xs ys
 AllZip-same P Q [] [] all to = tt

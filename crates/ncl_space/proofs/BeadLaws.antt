@@ -1,18 +1,7 @@
 -- The distinct beads of tables: their number as a number that computes, and the beads of lists that are
 -- joined or whose members are the same.
-use Rattle.std.proofs.Common.{◌≡◌, ℕ, zero, suc, ◌+◌, Bool, true, false, ◌||◌, List, [], ◌∷◌, ◌++◌, Some, slice_get, cond, refl, sym, ap, ◌∙◌}
-use Rattle.std.specs.List.{list_any, flat_map}
-use Rattle.std.specs.List.Sorted.{IsPermutation}
-use Rattle.std.specs.FinMap.{IsAntisymmetric, slice_cmp-IsAntisymmetric}
-use Rattle.std.proofs.lemmas.List.Concat.{flat_map-cons}
-use Rattle.std.proofs.lemmas.List.Folds.{list_any-append}
-use Rattle.std.proofs.lemmas.List.Sorted.{list_any-IsPermutation}
-use Rattle.std.specs.Ordering.{bool_cmp, eq_by_cmp}
-use Rattle.std.specs.Cmp.{IsTotalOrder, bool_cmp_total}
-use Rattle.std.specs.Cmp.Lexicographic.{slice_cmp, lists_total}
-use Rattle.ncl_base.proofs.Tests.{same_from_both}
+use Rattle.ncl_space.proofs.Terms.{Beads, Bool, IsAntisymmetric, IsPermutation, IsTotalOrder, List, Some, [], ap, bead_count, beads_of, bool_cmp, bool_cmp_total, cond, distinct_beads, eq_by_cmp, false, flat_map, flat_map-cons, is_bead, list_any, list_any-IsPermutation, list_any-append, lists_total, refl, same_from_both, slice_cmp, slice_cmp-IsAntisymmetric, slice_get, suc, sym, true, zero, ℕ, ◌++◌, ◌+◌, ◌||◌, ◌∙◌, ◌∷◌, ◌≡◌}
 use Rattle.std.specs.FinSet as set
-use Rattle.ncl_space.specs.Beads.{Beads, beads_of, is_bead, distinct_beads, bead_count}
 
 pub table_order : IsTotalOrder (slice_cmp bool_cmp)
 table_order = lists_total bool_cmp_total

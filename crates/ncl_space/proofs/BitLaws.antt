@@ -1,13 +1,5 @@
 -- Bits of numbers: of masks, and of words as numbers.
-use Rattle.std.proofs.Common.{◌≡◌, ℕ, zero, suc, ◌+◌, ◌-◌, ◌*◌, ◌^◌, ◌<◌, ◌≤◌, Bool, true, false, not, ◌&&◌, List, [], ◌∷◌, Some, None, if◌then◌else◌, inl, inr, length, nat_eq, nat_lt, slice_index_or, sym, subst, ap, ◌∙◌, refl, arith}
-use Rattle.std.specs.Int.{bit_at, w64}
-use Rattle.std.specs.List.{find}
-use Rattle.std.specs.Option.{option_or, option_map}
-use Rattle.std.proofs.lemmas.Bool.{and_parts, cases_lt, lt-ltb, le-ltb}
-use Rattle.std.proofs.lemmas.Nat.Bits.{bit_at-lt, bit_at_above, bit_at_cat_low, bit_at_cat_high, same_from_bits_below, bit_at_not, bit_at_ones, bit_at_ones_above}
-use Rattle.ncl_space.specs.Table.{words, table_of, word_number}
-use Rattle.ncl_gates.specs.Bits.{is_set}
-use Rattle.ncl_space.specs.Bits.{word_of}
+use Rattle.ncl_space.proofs.Terms.{Bool, List, None, Some, [], and_parts, ap, arith, bit_at, bit_at-lt, bit_at_above, bit_at_cat_high, bit_at_cat_low, bit_at_not, bit_at_ones, bit_at_ones_above, cases_lt, false, find, if◌then◌else◌, inl, inr, is_set, le-ltb, length, lt-ltb, nat_eq, nat_lt, not, option_map, option_or, refl, same_from_bits_below, slice_index_or, subst, suc, sym, table_of, true, w64, word_number, word_of, words, zero, ℕ, ◌&&◌, ◌*◌, ◌+◌, ◌-◌, ◌<◌, ◌^◌, ◌∙◌, ◌∷◌, ◌≡◌, ◌≤◌}
 use Rattle.ncl_space.proofs.TableLaws.{pow_suc, at_table, find-words, find-same}
 
 -- a bit of a number below 2 ^ k, at or past k

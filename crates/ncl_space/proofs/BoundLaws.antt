@@ -1,15 +1,6 @@
 -- Tables that depend on few bits have few beads.
-use Rattle.std.proofs.Common.{◌≡◌, ℕ, zero, suc, ◌+◌, ◌^◌, ◌<◌, ◌≤◌, Bool, true, false, List, [], ◌∷◌, ◌++◌, length, map, if◌then◌else◌, ◌⊎◌, inl, inr, refl, sym, ap, ◌∙◌, subst, arith}
-use Rattle.std.specs.List.{AllByRecursion, flat_map, list_any}
-use Rattle.std.proofs.lemmas.Grind.{common_steps}
-use Rattle.std.proofs.lemmas.Bool.{and_parts, or_cases, or_left, or_right, both_ways}
-use Rattle.std.proofs.lemmas.List.{length-append, length-take-le, length-drop}
-use Rattle.std.proofs.lemmas.List.Concat.{flat_map-cons}
-use Rattle.ncl_space.specs.Beads.{low_half, high_half, is_same, beads_of}
-use Rattle.ncl_space.specs.Table.{words}
-use Rattle.ncl_space.specs.Bounds.{width_of, is_free, weight, weights, Marked, IsMarked, small_tables}
-use Rattle.ncl_base.proofs.Members.{Member, here, there, member_cases, Member-append_right, Member-append_cases, Member-append_left, Member-map}
-use Rattle.ncl_space.specs.Beads.{bead_count}
+use Rattle.ncl_space.proofs.Terms.{AllByRecursion, Bool, IsMarked, List, Marked, Member, Member-append_cases, Member-append_left, Member-append_right, Member-map, [], and_parts, ap, arith, bead_count, beads_of, both_ways, common_steps, false, flat_map, flat_map-cons, here, high_half, if◌then◌else◌, inl, inr, is_free, is_same, length, length-drop, length-take-le, list_any, low_half, map, member_cases, or_cases, or_left, or_right, refl, small_tables, subst, suc, sym, there, true, weight, weights, width_of, words, zero, ℕ, ◌++◌, ◌+◌, ◌<◌, ◌^◌, ◌∙◌, ◌∷◌, ◌≡◌, ◌≤◌, ◌⊎◌}
+use Rattle.std.proofs.lemmas.List.{length-append}
 use Rattle.ncl_space.proofs.BeadLaws.{bead_count-computes}
 use Rattle.ncl_space.proofs.Nub.{distinct-le, same}
 

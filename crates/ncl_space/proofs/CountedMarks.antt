@@ -1,12 +1,5 @@
 -- Spaces whose marks count: a Ref is live by its place and by how many items there are, and at a mark the first ones stand.
-use Rattle.std.proofs.Common.{◌≡◌, ℕ, ◌+◌, ◌<◌, ◌≤◌, List, length, take, nat_lt, nat_le, IsTrue, sym, ap, ◌∙◌, subst, arith}
-use Rattle.std.proofs.lemmas.Bool.Decides.{nat_tests}
-use Rattle.std.proofs.lemmas.List.{length-take-le, take-take}
-use Rattle.std.proofs.Math.Seq.{take-length}
-use Rattle.ncl_space.specs.Beads.{Beads}
-use Rattle.ncl_space.specs.Space.{SpaceData, IsSpace, MarksNow, Releases}
-use Rattle.ncl_space.specs.declared.space.Ref.{Ref}
-use Rattle.ncl_space.specs.declared.space.Mark.{Mark}
+use Rattle.ncl_space.proofs.Terms.{Beads, IsSpace, IsTrue, List, Mark, MarksNow, Ref, Releases, SpaceData, ap, arith, length, length-take-le, nat_le, nat_lt, nat_tests, subst, sym, take, take-length, take-take, ℕ, ◌+◌, ◌<◌, ◌∙◌, ◌≡◌, ◌≤◌}
 
 -- the tests of a space and what they say
 pub from_nat_lt : (a b : ℕ) → IsTrue (nat_lt a b) → a < b

@@ -1,11 +1,5 @@
 -- The table of a function that looks at some bits alone is free of the others.
-use Rattle.std.proofs.Common.{◌≡◌, ℕ, zero, suc, ◌+◌, ◌^◌, Bool, true, false, List, [], ◌∷◌, length, map, refl, sym, ap, ◌∙◌, arith, length-append}
-use Rattle.std.proofs.lemmas.Grind.{common_steps}
-use Rattle.std.proofs.lemmas.Bool.{and_from}
-use Rattle.std.proofs.lemmas.List.{length-map, map-append}
-use Rattle.ncl_space.specs.Beads.{low_half, high_half, is_same}
-use Rattle.ncl_space.specs.Table.{words, table_of}
-use Rattle.ncl_space.specs.Bounds.{Agree, LooksAt, is_free, width_of}
+use Rattle.ncl_space.proofs.Terms.{Agree, Bool, List, LooksAt, [], and_from, ap, arith, common_steps, false, high_half, is_free, is_same, length, length-append, length-map, low_half, map, map-append, refl, suc, sym, table_of, true, width_of, words, zero, ℕ, ◌+◌, ◌^◌, ◌∙◌, ◌∷◌, ◌≡◌}
 use Rattle.ncl_space.proofs.TableLaws.{low_half-append, high_half-append, map_after}
 
 is_same-self : (t : List Bool) → is_same t t ≡ true

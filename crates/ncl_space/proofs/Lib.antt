@@ -1,3 +1,4 @@
+mod Terms
 pub mod BeadLaws
 pub mod TableLaws
 pub mod SpaceLaws

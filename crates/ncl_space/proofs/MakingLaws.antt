@@ -1,15 +1,7 @@
 -- How a caller makes a list of functions, one after another: what it has made so far, one more, a refusal,
 -- and the end.
-use Rattle.std.proofs.Common.{◌≡◌, ℕ, ◌+◌, ◌<◌, List, [], ◌∷◌, ◌++◌, Bool, false, length, map, take, drop, get_or, sym, ◌∙◌, ap, subst, refl, arith, Result, Ok, Err}
-use Rattle.std.specs.Prelude.{All, IsErrAnd}
-use Rattle.std.proofs.lemmas.List.{map-append, length-map, take-append-drop, take_more, get_or-map, map_more}
-use Rattle.std.proofs.lemmas.List.Elements.{All-append, All-cons, All-nil, All-head, All-tail}
-use Rattle.ncl_space.specs.Space.{SpaceData, IsSpace, IsLive, Keeps, Makes, with_tables, fits, Within}
-use Rattle.ncl_space.specs.Beads.{distinct_beads}
-use Rattle.ncl_space.specs.Making.{HaveTables, MakesAll, IsNamed}
-use Rattle.ncl_space.specs.declared.space.Ref.{Ref}
-use Rattle.ncl_space.specs.declared.space.SpaceFault.{SpaceFault}
-use Rattle.ncl_space.specs.declared.space.SpaceFault.TheVariants.{Full}
+use Rattle.ncl_space.proofs.Terms.{All-append, All-cons, All-head, All-nil, All-tail, Bool, Err, Full, HaveTables, IsErrAnd, IsLive, IsNamed, IsSpace, Keeps, List, Makes, MakesAll, Ok, Ref, Result, SpaceData, SpaceFault, Within, [], ap, arith, distinct_beads, drop, false, fits, get_or, get_or-map, length, length-map, map, map-append, map_more, refl, subst, sym, take, take-append-drop, take_more, with_tables, ℕ, ◌++◌, ◌+◌, ◌<◌, ◌∙◌, ◌∷◌, ◌≡◌}
+use Rattle.std.specs.Prelude.{All}
 use Rattle.ncl_space.proofs.SpaceLaws.{keeps_along, keeps_all, with_more, with_none, with_kept, fits_more, too_much_by_front}
 
 -- what a caller has made so far

@@ -1,13 +1,6 @@
 -- The number of distinct members of a list is no more than the length of a list that has all of them.
-use Rattle.std.proofs.Common.{◌≡◌, ◌+◌, ◌≤◌, Bool, true, false, List, [], ◌∷◌, length, cond, inl, inr, refl, subst, arith}
-use Rattle.std.specs.Cmp.{IsEquivalence, bool_cmp_total}
-use Rattle.std.specs.List.{AllByRecursion, IsDistinct, list_any}
-use Rattle.std.specs.Set.{is_member}
-use Rattle.std.proofs.lemmas.Bool.{or_cases, or_left, or_right, both_ways, false_from_ne_true, or_parts}
-use Rattle.std.proofs.lemmas.Cmp.{eq_by_cmp_equiv}
-use Rattle.std.proofs.lemmas.Map.Made.{length-le_from_is_member}
-use Rattle.std.specs.Cmp.Lexicographic.{lists_total, slice_cmp}
-use Rattle.std.specs.Ordering.{bool_cmp, eq_by_cmp}
+use Rattle.std.specs.List.{IsDistinct}
+use Rattle.ncl_space.proofs.Terms.{AllByRecursion, Bool, IsEquivalence, List, [], arith, bool_cmp, bool_cmp_total, both_ways, cond, eq_by_cmp, eq_by_cmp_equiv, false, false_from_ne_true, inl, inr, is_member, length, length-le_from_is_member, list_any, lists_total, or_cases, or_left, or_parts, or_right, refl, slice_cmp, subst, true, ◌+◌, ◌∷◌, ◌≡◌, ◌≤◌}
 use Rattle.ncl_space.proofs.BeadLaws.{distinct_count}
 
 -- two tables are one

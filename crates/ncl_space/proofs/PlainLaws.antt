@@ -1,21 +1,7 @@
 -- A space of tables is a space, and how it changes where a table is put after the others or the last ones go.
-use Rattle.std.proofs.Common.{◌≡◌, ℕ, zero, suc, ◌+◌, ◌-◌, ◌*◌, ◌^◌, ◌<◌, ◌≤◌, Bool, true, false, ◌||◌, List, [], ◌∷◌, ◌++◌, length, map, take, drop, inl, inr, slice_index_or, sym, subst, ap, ◌∙◌, refl, arith}
+use Rattle.ncl_space.proofs.Terms.{Adds, All, AllByRecursion, AreTables, Beads, Bool, IfOk, IsLive, IsSpace, Keeps, List, Makes, Mark, MarksNow, OnErr, OnOk, PlainData, Ref, Releases, SpaceFault, Within, [], ap, arith, beads_of, cases_lt, constant_table, distinct_beads, drop, false, get_or-take, get_or_append_left, get_or_push, inl, inr, is_bead, is_set, length, length-take-le, length_push, list_any, map, mul-add-lt, mul_comm, plain_space, refl, row_table, slice_index_or, stride_of, subst, suc, sym, table_at, tables_in, take, take-append-drop, take-append-le, true, words, zero, ℕ, ◌*◌, ◌++◌, ◌+◌, ◌-◌, ◌<◌, ◌^◌, ◌||◌, ◌∙◌, ◌∷◌, ◌≡◌, ◌≤◌}
 use Rattle.std.specs.FinSet as set
-use Rattle.std.specs.List.{All, AllByRecursion, list_any}
-use Rattle.std.specs.Prelude.{Result, Ok, Err, IfOk, OnOk, OnErr}
-use Rattle.std.proofs.lemmas.Bool.{cases_lt}
-use Rattle.std.proofs.lemmas.Nat.{mul-add-lt}
-use Rattle.std.proofs.Math.Nat.{mul_comm}
-use Rattle.std.proofs.lemmas.List.{get_or_append_left, get_or_push, get_or-take, length_push, length-take-le, take-append-le, take-append-drop}
-use Rattle.ncl_space.specs.Table.{words}
-use Rattle.ncl_space.specs.Beads.{Beads, beads_of, is_bead, distinct_beads}
-use Rattle.ncl_space.specs.Functions.{constant_table}
-use Rattle.ncl_space.specs.Space.{IsLive, IsSpace, Keeps, Makes, MarksNow, Releases, Adds, Within}
-use Rattle.ncl_gates.specs.Bits.{is_set}
-use Rattle.ncl_space.specs.Plain.{PlainData, plain_space, table_at, stride_of, row_table, tables_in, AreTables}
-use Rattle.ncl_space.specs.declared.space.Ref.{Ref}
-use Rattle.ncl_space.specs.declared.space.Mark.{Mark}
-use Rattle.ncl_space.specs.declared.space.SpaceFault.{SpaceFault}
+use Rattle.std.specs.Prelude.{Result, Ok, Err}
 use Rattle.ncl_space.proofs.BeadLaws.{table_order, contains-distinct_beads, distinct_beads-append}
 use Rattle.ncl_space.proofs.TableLaws.{length-table_of, distinct_beads-constant}
 use Rattle.ncl_space.proofs.RowLaws.{length-row_table, get_or-tables_in, length-tables_in, tables_in-push, tables_in-take, bit_of_row}

@@ -1,20 +1,5 @@
 -- The tables that stand in a list of words.
-use Rattle.std.proofs.Common.{◌≡◌, ℕ, zero, suc, ◌+◌, ◌-◌, ◌*◌, ◌/◌, ◌%◌, ◌^◌, ◌<◌, ◌≤◌, Bool, true, false, List, [], ◌∷◌, ◌++◌, length, map, take, get_or, inl, inr, ◌⊎◌, ◌&&◌, ◌||◌, nat_lt, slice_index_or, sym, subst, ap, ◌∙◌, refl, arith, length-append}
-use Rattle.std.specs.List.{range_with_len, list_any, list_all, AllByRecursion}
-use Rattle.std.proofs.Math.Path.{fun_ext}
-use Rattle.std.proofs.lemmas.Bool.{cases_lt, lt-ltb, le-ltb}
-use Rattle.std.proofs.lemmas.Nat.{pow-add, mul-add-lt}
-use Rattle.std.proofs.Math.Pow.{pow_mono}
-use Rattle.std.proofs.Math.Nat.{mul_comm, mul-zero, mul-suc, mul-le-mul_left}
-use Rattle.std.proofs.lemmas.List.{ext_get_or, same_lists, get_or_past, get_or_append_left, get_or-append_right, get_or-take, length_push, get_or_push, length-take, length-take-le}
-use Rattle.std.proofs.lemmas.List.FromFn.{length-map-range_with_len, get_or-map-range_with_len}
-use Rattle.ncl_gates.specs.declared.kind.Kind.{Kind}
-use Rattle.ncl_gates.specs.Gate.{Pin, A, B, C, D, at_pin, products, set_of, some_high}
-use Rattle.ncl_gates.proofs.GateLaws.{set_of-low}
-use Rattle.ncl_gates.specs.Bits.{is_set}
-use Rattle.ncl_space.specs.Bits.{word_of}
-use Rattle.ncl_space.specs.Functions.{at, constant_table, gate_table, is_value, rail_table}
-use Rattle.ncl_space.specs.Plain.{stride_of, value_in, row_table, tables_in, AreTables, EndsAt, Holds, IsRow}
+use Rattle.ncl_space.proofs.Terms.{A, AllByRecursion, AreTables, B, Bool, C, D, EndsAt, Holds, IsRow, Kind, List, Pin, [], ap, arith, at, at_pin, cases_lt, constant_table, ext_get_or, false, fun_ext, gate_table, get_or, get_or-append_right, get_or-map-range_with_len, get_or-take, get_or_append_left, get_or_past, get_or_push, inl, inr, is_set, is_value, le-ltb, length, length-append, length-map-range_with_len, length-take, length-take-le, length_push, list_all, list_any, lt-ltb, map, mul-add-lt, mul-le-mul_left, mul-suc, mul-zero, mul_comm, nat_lt, pow-add, pow_mono, products, rail_table, range_with_len, refl, row_table, same_lists, set_of, set_of-low, slice_index_or, some_high, stride_of, subst, suc, sym, tables_in, take, true, value_in, word_of, zero, ℕ, ◌%◌, ◌&&◌, ◌*◌, ◌++◌, ◌+◌, ◌-◌, ◌/◌, ◌<◌, ◌^◌, ◌||◌, ◌∙◌, ◌∷◌, ◌≡◌, ◌≤◌, ◌⊎◌}
 use Rattle.ncl_space.proofs.TableLaws.{length-table_of}
 use Rattle.ncl_space.proofs.BitLaws.{is_set-past, index-table_of, index-word_of, word_number-word_of}
 

@@ -1,14 +1,6 @@
 -- How calls of a space follow one another: what is held after some tables and after more, and when all fit.
-use Rattle.std.proofs.Common.{◌≡◌, ℕ, ◌+◌, ◌≤◌, List, [], ◌∷◌, ◌++◌, Bool, true, false, ◌||◌, cond, inl, inr, sym, ◌∙◌, ap, subst, refl, arith, Some, None, Option}
+use Rattle.ncl_space.proofs.Terms.{Beads, Bool, IsSpace, Keeps, List, None, Option, Some, SpaceData, Within, [], ap, arith, bead_count, beads_of, bool_cmp, cond, distinct_beads, eq_by_cmp, false, fits, flat_map, inl, inr, is_bead, is_within, nat_tests, or-assoc, or_cases, or_left, or_right, refl, slice_cmp, subst, sym, true, with_tables, ℕ, ◌++◌, ◌+◌, ◌||◌, ◌∙◌, ◌∷◌, ◌≡◌, ◌≤◌}
 use Rattle.std.specs.FinSet as set
-use Rattle.std.specs.Cmp.Lexicographic.{slice_cmp}
-use Rattle.std.specs.Ordering.{bool_cmp, eq_by_cmp}
-use Rattle.std.specs.List.{flat_map}
-use Rattle.std.proofs.lemmas.Bool.{or_cases, or_left, or_right}
-use Rattle.std.proofs.lemmas.Bool.Decides.{nat_tests}
-use Rattle.ncl_base.proofs.Tests.{or-assoc}
-use Rattle.ncl_space.specs.Beads.{Beads, beads_of, is_bead, distinct_beads, bead_count}
-use Rattle.ncl_space.specs.Space.{SpaceData, IsSpace, Keeps, Within, with_tables, fits, is_within}
 use Rattle.ncl_space.proofs.BeadLaws.{table_order, one_set, distinct_beads-append}
 
 -- what two calls keep, both keep

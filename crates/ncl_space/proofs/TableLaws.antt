@@ -1,16 +1,7 @@
 -- Tables of functions of a word: their length and halves, the value at a word, the least word, and that a
 -- constant has no bead.
-use Rattle.std.proofs.Common.{◌≡◌, ℕ, zero, suc, ◌+◌, ◌^◌, ◌<◌, List, [], ◌∷◌, ◌++◌, Bool, true, false, not, length, map, take, drop, slice_index_or, Option, Some, None, if◌then◌else◌, sym, ◌∙◌, ap, refl, arith, length-append}
-use Rattle.std.specs.Option.{option_or, option_map}
-use Rattle.std.proofs.Math.Seq.{take-append_seam, drop-append_seam}
+use Rattle.ncl_space.proofs.Terms.{Bool, List, None, Option, Some, [], ap, arith, at, beads_of, common_steps, constant_table, distinct_beads, drop, drop-append_seam, false, find, find-append, high_half, if◌then◌else◌, is_same, least, length, length-append, low_half, map, map-append, not, option_map, option_or, refl, slice_index_or, suc, sym, table_of, take, take-append_seam, true, word_number, words, zero, ℕ, ◌++◌, ◌+◌, ◌<◌, ◌^◌, ◌∙◌, ◌∷◌, ◌≡◌}
 use Rattle.std.specs.FinSet as set
-use Rattle.std.specs.List.{find}
-use Rattle.std.proofs.lemmas.Grind.{common_steps}
-use Rattle.std.proofs.lemmas.List.{map-append}
-use Rattle.std.proofs.lemmas.List.Folds.{find-append}
-use Rattle.ncl_space.specs.Table.{words, table_of, word_number}
-use Rattle.ncl_space.specs.Beads.{low_half, high_half, is_same, beads_of, distinct_beads}
-use Rattle.ncl_space.specs.Functions.{at, constant_table, least}
 
 pub pow_suc : (n : ℕ) → 2 ^ suc n ≡ 2 ^ n + 2 ^ n
 pow_suc n = grind (arith, common_steps)

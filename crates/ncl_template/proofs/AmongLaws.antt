@@ -1,14 +1,5 @@
 -- Templates among other gates.
-use Rattle.std.proofs.Common.{◌≡◌, ℕ, ◌<◌, Bool, true, List, ◌++◌, length, get_or, sym, subst}
-use Rattle.std.specs.Prelude.{Contains}
-use Rattle.ncl_base.proofs.Members.{Member-append_right, Member-get_or, Contains-from_Member, Member-from_Contains}
-use Rattle.ncl_shape.specs.declared.rails.Rails.{Rails}
-use Rattle.ncl_shape.specs.declared.stage.StageCell.{StageCell}
-use Rattle.ncl_shape.specs.Nets.{Nets}
-use Rattle.ncl_template.specs.Template.{IsNull, Obeys, IsCase, IsTemplate}
-use Rattle.ncl_template.specs.Forms.{no_pair}
-use Rattle.ncl_template.specs.Formed.{AddsTemplate}
-use Rattle.ncl_template.specs.Among.{IsTemplateAmong, AddsAmong}
+use Rattle.ncl_template.proofs.Terms.{AddsAmong, AddsTemplate, Bool, Contains, Contains-from_Member, IsCase, IsNull, IsTemplate, IsTemplateAmong, List, Member-append_right, Member-from_Contains, Member-get_or, Nets, Obeys, Rails, StageCell, get_or, length, no_pair, subst, sym, true, ℕ, ◌++◌, ◌<◌, ◌≡◌}
 
 module _ (cells part : List StageCell) (within : (c : StageCell) → Contains part c → Contains cells c) where
   -- values that obey some cells obey a part of them

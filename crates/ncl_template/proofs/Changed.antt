@@ -1,20 +1,6 @@
 -- A function that is one of the other inputs where the first is 0, and another one where it is 1: four templates, of the first, of
 -- whether the two differ, and of two pairs, are one of it.
-use Rattle.std.proofs.Common.{◌≡◌, ℕ, ◌+◌, ◌*◌, Bool, true, false, not, List, [], ◌∷◌, ◌++◌, length, map, inl, inr, refl, sym, ap, subst, ◌∙◌, arith, append_assoc, length-append}
-use Rattle.std.specs.Prelude.{Contains, if◌then◌else◌}
-use Rattle.std.specs.Bool.{beq}
-use Rattle.ncl_template.specs.Tables.{row_value, choice, differs}
-use Rattle.std.proofs.lemmas.List.{append-nil, map-append}
-use Rattle.std.proofs.lemmas.List.Elements.{All-contains}
-use Rattle.ncl_base.proofs.Members.{Member, here, there, Member-append_left, Member-append_right, Member-append_cases, Contains-from_Member, Member-from_Contains}
-use Rattle.ncl_gates.specs.Gate.{arity_of}
-use Rattle.ncl_netlist.specs.declared.ids.NetId.{NetId}
-use Rattle.ncl_shape.specs.declared.rails.Rails.{Rails}
-use Rattle.ncl_shape.specs.declared.stage.StageCell.{StageCell}
-use Rattle.ncl_shape.specs.Nets.{Nets}
-use Rattle.ncl_shape.specs.Stage.{out_of, rail_nets, nets_of}
-use Rattle.ncl_template.specs.Template.{Shows, IsNull, ShowWord, Obeys, IsCase, IsTemplate}
-use Rattle.ncl_template.specs.Formed.{IsFormed, AddsTemplate}
+use Rattle.ncl_template.proofs.Terms.{AddsTemplate, All-contains, Bool, Contains, Contains-from_Member, IsCase, IsFormed, IsNull, IsTemplate, List, Member, Member-append_cases, Member-append_left, Member-append_right, Member-from_Contains, NetId, Nets, Obeys, Rails, ShowWord, Shows, StageCell, [], ap, append-nil, append_assoc, arith, arity_of, beq, choice, differs, false, here, if◌then◌else◌, inl, inr, length, length-append, map, map-append, nets_of, not, out_of, rail_nets, refl, row_value, subst, sym, there, true, ℕ, ◌*◌, ◌++◌, ◌+◌, ◌∙◌, ◌∷◌, ◌≡◌}
 use Rattle.ncl_template.proofs.InOrder.{AreInOrder, in_order-wider, in_order-append, arities-in_order, IsInOrder-from}
 use Rattle.ncl_template.proofs.AmongLaws.{obeys_part}
 

@@ -1,26 +1,5 @@
 -- The gates of a form as a template.
-use Rattle.std.proofs.Common.{◌≡◌, ℕ, zero, suc, ◌+◌, ◌<◌, ◌≤◌, Bool, true, false, not, ◌&&◌, nat_eq, List, [], ◌∷◌, ◌++◌, length, map, get_or, inl, inr, refl, sym, ap, subst, ◌∙◌, arith, append_assoc, length-append}
-use Rattle.std.proofs.lemmas.List.{append-nil, get_or_append_left, get_or_push, length_push, length-map}
-use Rattle.std.specs.Prelude.{Contains}
-use Rattle.std.proofs.lemmas.Bool.{both_ways, false_from_ne_true, true_from_ne_false, cases_lt, eqb-true}
-use Rattle.ncl_base.proofs.Members.{Member, here, there, Member-append_left, Member-append_right, Member-append_cases, Member-map, member_of_map, Contains-from_Member, Member-from_Contains}
-use Rattle.ncl_gates.specs.Gate.{arity_of, set_of}
-use Rattle.ncl_netlist.specs.declared.ids.NetId.{NetId}
-use Rattle.ncl_shape.specs.declared.rails.Rails.{Rails}
-use Rattle.ncl_shape.specs.declared.stage.StageCell.{StageCell}
-use Rattle.ncl_shape.specs.Nets.{Nets}
-use Rattle.ncl_shape.specs.Closure.{pin_values}
-use Rattle.ncl_faults.specs.Values.{holds}
-use Rattle.ncl_shape.specs.Stage.{out_of, rail_nets}
-use Rattle.ncl_decomp.specs.Split.{cost_of_inputs}
-use Rattle.ncl_template.specs.declared.form.FormPin.{FormPin}
-use Rattle.ncl_template.specs.declared.form.FormPin.TheVariants.{Zero, One, Inner}
-use Rattle.ncl_template.specs.declared.form.FormGate.{FormGate}
-use Rattle.ncl_template.specs.declared.form.Form.{Form}
-use Rattle.ncl_template.specs.Template.{IsNull, ShowWord, Obeys, IsCase, IsTemplate}
-use Rattle.ncl_template.specs.Formed.{IsFormed, AddsTemplate}
-use Rattle.ncl_template.specs.Among.{AddsAmong}
-use Rattle.ncl_template.specs.Forms.{gate_bit, inner_bits, IsFormPin, IsFormGate, AreInner, FitsAt, Fits, no_pair, no_net, pin_net, IsGateOf, AddsInner, none, more, AddsForm}
+use Rattle.ncl_template.proofs.Terms.{AddsAmong, AddsForm, AddsInner, AddsTemplate, AreInner, Bool, Contains, Contains-from_Member, Fits, FitsAt, Form, FormGate, FormPin, Inner, IsCase, IsFormGate, IsFormPin, IsFormed, IsGateOf, IsNull, IsTemplate, List, Member, Member-append_cases, Member-append_left, Member-append_right, Member-from_Contains, Member-map, NetId, Nets, Obeys, One, Rails, ShowWord, StageCell, Zero, [], ap, append-nil, append_assoc, arith, arity_of, both_ways, cases_lt, cost_of_inputs, eqb-true, false, false_from_ne_true, gate_bit, get_or, get_or_append_left, get_or_push, here, holds, inl, inner_bits, inr, length, length-append, length-map, length_push, map, member_of_map, more, nat_eq, no_net, no_pair, none, not, out_of, pin_net, pin_values, rail_nets, refl, set_of, subst, suc, sym, there, true, true_from_ne_false, zero, ℕ, ◌&&◌, ◌++◌, ◌+◌, ◌<◌, ◌∙◌, ◌∷◌, ◌≡◌, ◌≤◌}
 use Rattle.ncl_template.proofs.Leaves.{IsLeaf, ShowWord-length, low_from_unset, template_of_leaves}
 use Rattle.ncl_template.proofs.InOrder.{AreInOrder, in_order-append, arities-in_order, IsInOrder-from}
 use Rattle.ncl_template.proofs.AmongLaws.{obeys_part, case_part, made_in, AddsAmong-from}

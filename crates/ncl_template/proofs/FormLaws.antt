@@ -1,21 +1,5 @@
 -- Gates that fit a function at each word are a template of it, which waits for the inputs that they wait for.
-use Rattle.std.proofs.Common.{◌≡◌, ℕ, zero, suc, ◌<◌, Bool, true, false, not, ◌&&◌, List, [], ◌∷◌, length, map, get_or, refl, sym, ap, subst, ◌∙◌, arith, nat_eq}
-use Rattle.std.proofs.lemmas.Bool.{both_ways, false_from_ne_true, eqb-true}
-use Rattle.std.proofs.lemmas.List.Elements.{All-contains}
-use Rattle.ncl_base.proofs.Members.{Member, here, there, Contains-from_Member}
-use Rattle.ncl_gates.specs.Gate.{set_of}
-use Rattle.ncl_gates.proofs.GateLaws.{set_of-monotone}
-use Rattle.ncl_netlist.specs.declared.ids.NetId.{NetId}
-use Rattle.ncl_shape.specs.declared.rails.Rails.{Rails}
-use Rattle.ncl_shape.specs.declared.stage.StageCell.{StageCell}
-use Rattle.ncl_shape.specs.Nets.{Nets, IsBelow}
-use Rattle.ncl_shape.specs.Closure.{pin_values}
-use Rattle.ncl_faults.specs.Values.{holds}
-use Rattle.ncl_template.specs.declared.form.FormPin.{FormPin}
-use Rattle.ncl_template.specs.declared.form.FormPin.TheVariants.{Zero, One, Inner}
-use Rattle.ncl_template.specs.declared.form.FormGate.{FormGate}
-use Rattle.ncl_template.specs.Template.{Shows, IsNull, ShowWord}
-use Rattle.ncl_template.specs.Forms.{pin_bit, gate_bit, IsFormPin, IsFormGate, no_net, no_pair, pin_net, IsGateOf}
+use Rattle.ncl_template.proofs.Terms.{All-contains, Bool, Contains-from_Member, FormGate, FormPin, Inner, IsBelow, IsFormGate, IsFormPin, IsGateOf, IsNull, List, Member, NetId, Nets, One, Rails, ShowWord, Shows, StageCell, Zero, [], ap, arith, both_ways, eqb-true, false, false_from_ne_true, gate_bit, get_or, here, holds, length, map, nat_eq, no_net, no_pair, not, pin_bit, pin_net, pin_values, refl, set_of, set_of-monotone, subst, suc, sym, there, true, zero, ℕ, ◌&&◌, ◌<◌, ◌∙◌, ◌∷◌, ◌≡◌}
 use Rattle.ncl_template.proofs.Leaves.{ShowWord-length, shown_nets}
 
 -- ---- the values on the pins

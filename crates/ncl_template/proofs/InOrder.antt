@@ -1,13 +1,5 @@
 -- Gates that read nets that are known, and earlier gates.
-use Rattle.std.proofs.Common.{◌≡◌, ℕ, List, [], ◌∷◌, ◌++◌, length, map, inl, inr, sym, subst, append_assoc}
-use Rattle.std.specs.Prelude.{All, Contains}
-use Rattle.std.proofs.lemmas.List.{append-nil}
-use Rattle.ncl_base.proofs.Members.{Member, here, there, Member-append_left, Member-append_right, Member-append_cases, Contains-from_Member, All-from_members}
-use Rattle.ncl_gates.specs.Gate.{arity_of}
-use Rattle.ncl_netlist.specs.declared.ids.NetId.{NetId}
-use Rattle.ncl_shape.specs.declared.rails.Rails.{Rails}
-use Rattle.ncl_shape.specs.declared.stage.StageCell.{StageCell}
-use Rattle.ncl_shape.specs.Stage.{out_of, rail_nets, nets_of, IsInOrder}
+use Rattle.ncl_template.proofs.Terms.{All, All-from_members, Contains, Contains-from_Member, IsInOrder, List, Member, Member-append_cases, Member-append_left, Member-append_right, NetId, Rails, StageCell, [], append-nil, append_assoc, arity_of, here, inl, inr, length, map, nets_of, out_of, rail_nets, subst, sym, there, ℕ, ◌++◌, ◌∷◌, ◌≡◌}
 
 -- each gate has a net on each pin, which is known or driven by an earlier gate
 abbrev pub AreInOrder : List ℕ → List StageCell → Type 0

@@ -1,26 +1,5 @@
 -- Gates that fit jointly are a template among the cells beside which they fit.
-use Rattle.std.proofs.Common.{◌≡◌, ℕ, zero, suc, ◌<◌, Bool, true, false, List, [], ◌∷◌, length, take, get_or, inl, inr, refl, sym, ap, subst, ◌∙◌, arith}
-use Rattle.std.specs.Prelude.{Contains}
-use Rattle.std.proofs.lemmas.Bool.{both_ways, true_from_ne_false, cases_lt}
-use Rattle.ncl_base.proofs.Members.{Member, here, Member-append_left, Member-append_right, Contains-from_Member, Member-from_Contains}
-use Rattle.ncl_netlist.specs.declared.ids.NetId.{NetId}
-use Rattle.ncl_shape.specs.declared.rails.Rails.{Rails}
-use Rattle.ncl_shape.specs.declared.stage.StageCell.{StageCell}
-use Rattle.ncl_shape.specs.Nets.{Nets}
-use Rattle.ncl_shape.specs.Stage.{out_of}
-use Rattle.ncl_faults.specs.Values.{holds}
-use Rattle.ncl_decomp.specs.Split.{cost_of_inputs}
-use Rattle.ncl_template.specs.declared.form.FormPin.{FormPin}
-use Rattle.ncl_template.specs.declared.form.FormPin.TheVariants.{Zero, One, Inner}
-use Rattle.ncl_template.specs.declared.form.FormGate.{FormGate}
-use Rattle.ncl_template.specs.declared.form.Form.{Form}
-use Rattle.ncl_template.specs.declared.waits.Waits.{Waits}
-use Rattle.ncl_template.specs.Template.{IsNull, ShowWord, IsCase}
-use Rattle.ncl_template.specs.Among.{AddsAmong}
-use Rattle.ncl_template.specs.Formed.{AddsTemplate}
-use Rattle.ncl_template.specs.Waits.{waits_at, waits_once, no_inputs}
-use Rattle.ncl_template.specs.Forms.{pin_bit, gate_bit, IsFormPin, IsFormGate, IsBehind, no_pair, pin_net, IsGateOf, AddsForm}
-use Rattle.ncl_template.specs.Joint.{IsGateAmong, IsPairAmong, joint_pin, joint_bit, FitsJointly}
+use Rattle.ncl_template.proofs.Terms.{AddsAmong, AddsForm, AddsTemplate, Bool, Contains, Contains-from_Member, FitsJointly, Form, FormGate, FormPin, Inner, IsBehind, IsCase, IsFormGate, IsFormPin, IsGateAmong, IsGateOf, IsNull, IsPairAmong, List, Member, Member-append_left, Member-append_right, Member-from_Contains, NetId, Nets, One, Rails, ShowWord, StageCell, Waits, Zero, [], ap, arith, both_ways, cases_lt, cost_of_inputs, false, gate_bit, get_or, here, holds, inl, inr, joint_bit, joint_pin, length, no_inputs, no_pair, out_of, pin_bit, pin_net, refl, subst, suc, sym, take, true, true_from_ne_false, waits_at, waits_once, zero, ℕ, ◌<◌, ◌∙◌, ◌∷◌, ◌≡◌}
 use Rattle.ncl_template.proofs.Leaves.{low_from_unset}
 use Rattle.ncl_template.proofs.WaitsLaws.{once_at}
 use Rattle.ncl_template.proofs.FormLaws.{gate_unset, pin_rises, pins_unset, all_pins}

@@ -1,14 +1,5 @@
 -- Two gates over others as a template: one for each value of a function.
-use Rattle.std.proofs.Common.{◌≡◌, Bool, true, false, not, ◌&&◌, List, [], ◌∷◌, ◌++◌, length, inl, inr, refl, sym, ◌∙◌, arith}
-use Rattle.std.specs.Prelude.{Contains}
-use Rattle.std.proofs.lemmas.Bool.{and_left, and_right, both_ways, false_from_ne_true, not-true}
-use Rattle.ncl_base.proofs.Members.{Member, here, there, Member-append_left, Member-append_right, Member-append_cases, Contains-from_Member, Member-from_Contains}
-use Rattle.ncl_shape.specs.declared.rails.Rails.{Rails}
-use Rattle.ncl_shape.specs.declared.stage.StageCell.{StageCell}
-use Rattle.ncl_shape.specs.Nets.{Nets, IsBelow}
-use Rattle.ncl_shape.specs.Stage.{out_of}
-use Rattle.ncl_faults.specs.Values.{holds}
-use Rattle.ncl_template.specs.Template.{Shows, IsNull, ShowWord, Obeys, IsCase, IsTemplate}
+use Rattle.ncl_template.proofs.Terms.{Bool, Contains, Contains-from_Member, IsBelow, IsCase, IsNull, IsTemplate, List, Member, Member-append_cases, Member-append_left, Member-append_right, Member-from_Contains, Nets, Obeys, Rails, ShowWord, Shows, StageCell, [], and_left, and_right, arith, both_ways, false, false_from_ne_true, here, holds, inl, inr, length, not, not-true, out_of, refl, sym, there, true, ◌&&◌, ◌++◌, ◌∙◌, ◌∷◌, ◌≡◌}
 use Rattle.ncl_template.proofs.AmongLaws.{obeys_part, case_part}
 
 -- over gates that come before it, a gate is set exactly at some words; it waits for some input pairs, and for each of the

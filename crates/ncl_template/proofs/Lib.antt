@@ -1,3 +1,4 @@
+mod Terms
 pub mod AmongLaws
 pub mod TwoGates
 pub mod Leaves

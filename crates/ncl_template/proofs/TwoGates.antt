@@ -1,21 +1,5 @@
 -- The laws of gates over two pairs.
-use Rattle.std.proofs.Common.{◌≡◌, Bool, true, false, not, ◌&&◌, ◌||◌, List, [], ◌∷◌, length, map, inl, inr, refl, sym, ap, subst, ◌∙◌, nat_eq}
-use Rattle.std.specs.Bool.{beq}
-use Rattle.std.proofs.lemmas.Bool.{and_parts, or_cases, both_ways, not-true, eqb-true}
-use Rattle.std.proofs.lemmas.List.{length-map}
-use Rattle.ncl_base.proofs.Members.{Member, here, there, member_of_map}
-use Rattle.ncl_gates.specs.Gate.{set_of, arity_of}
-use Rattle.ncl_netlist.specs.declared.ids.NetId.{NetId}
-use Rattle.ncl_shape.specs.declared.rails.Rails.{Rails}
-use Rattle.ncl_shape.specs.declared.stage.StageCell.{StageCell}
-use Rattle.ncl_shape.specs.Nets.{Nets}
-use Rattle.ncl_shape.specs.Stage.{rail_nets}
-use Rattle.ncl_shape.specs.Closure.{pin_values}
-use Rattle.ncl_faults.specs.Values.{holds}
-use Rattle.ncl_template.specs.declared.table.TableRow.{TableRow}
-use Rattle.ncl_template.specs.Template.{IsNull}
-use Rattle.ncl_template.specs.Tables.{row_value}
-use Rattle.ncl_template.specs.PairGates.{Wire, A0, A1, B0, B1, two_kind, two_pins, wire_net, IsTwoGate}
+use Rattle.ncl_template.proofs.Terms.{A0, A1, B0, B1, Bool, IsNull, IsTwoGate, List, Member, NetId, Nets, Rails, StageCell, TableRow, Wire, [], and_parts, ap, arity_of, beq, both_ways, eqb-true, false, here, holds, inl, inr, length, length-map, map, member_of_map, nat_eq, not, not-true, or_cases, pin_values, rail_nets, refl, row_value, set_of, subst, sym, there, true, two_kind, two_pins, wire_net, ◌&&◌, ◌||◌, ◌∙◌, ◌∷◌, ◌≡◌}
 
 -- a test that both values pass, passes
 each : (p : Bool → Bool) → (p true && p false) ≡ true → (b : Bool) → p b ≡ true

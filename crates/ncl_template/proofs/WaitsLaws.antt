@@ -1,12 +1,5 @@
 -- Masks of words.
-use Rattle.std.proofs.Common.{◌≡◌, ℕ, zero, suc, ◌+◌, Bool, true, false, not, nat_eq, List, refl, ap, ◌∙◌}
-use Rattle.std.specs.Prelude.{if◌then◌else◌}
-use Rattle.std.proofs.lemmas.Bool.{both_ways}
-use Rattle.std.proofs.Math.Dec.{eqb-suc-zero}
-use Rattle.std.proofs.lemmas.Nat.Bits.{bit_at-zero}
-use Rattle.ncl_gates.specs.Bits.{is_set}
-use Rattle.ncl_template.specs.declared.waits.Waits.{Waits}
-use Rattle.ncl_template.specs.Waits.{mask_of, word_number, waits_at, waits_once, all_inputs}
+use Rattle.ncl_template.proofs.Terms.{Bool, List, Waits, all_inputs, ap, bit_at-zero, both_ways, eqb-suc-zero, false, if◌then◌else◌, is_set, mask_of, nat_eq, not, refl, suc, true, waits_at, waits_once, word_number, zero, ℕ, ◌+◌, ◌∙◌, ◌≡◌}
 
 -- a number with a bit is not 0
 some_bit : (n k : ℕ) → is_set n k ≡ true → not (nat_eq n 0) ≡ true

@@ -1,19 +1,5 @@
 -- The gates of a node.
-use Rattle.std.proofs.Common.{◌≡◌, ℕ, ◌≤◌, Bool, true, false, not, List, [], ◌∷◌, ◌++◌, length, map, Some, ◌⊎◌, inl, inr, refl, sym, ap, subst, ◌∙◌, arith, append_assoc}
-use Rattle.std.specs.Prelude.{slice_get}
-use Rattle.ncl_base.proofs.Members.{Member, here, there, member_cases, Member-append_left, Member-from_Contains, Contains-from_Member}
-use Rattle.ncl_netlist.specs.declared.ids.NetId.{NetId}
-use Rattle.ncl_shape.specs.declared.rails.Rails.{Rails}
-use Rattle.ncl_shape.specs.declared.stage.StageCell.{StageCell}
-use Rattle.ncl_shape.specs.Nets.{Nets, IsBelow}
-use Rattle.ncl_shape.specs.Stage.{out_of, rail_nets}
-use Rattle.ncl_faults.specs.Values.{holds}
-use Rattle.ncl_template.specs.declared.table.TableRow.{TableRow}
-use Rattle.ncl_template.specs.declared.table.Table.{Table}
-use Rattle.ncl_template.specs.Template.{Shows, IsNull, ShowWord, IsTemplate}
-use Rattle.ncl_template.specs.Formed.{IsFormed, AddsTemplate}
-use Rattle.ncl_template.specs.Tables.{row_value, table_value, choice, differs, row_of, table_of, inverse_row, difference_row, difference_table}
-use Rattle.ncl_template.specs.PairGates.{IsTwoGate, AddsGate}
+use Rattle.ncl_template.proofs.Terms.{AddsGate, AddsTemplate, Bool, Contains-from_Member, IsBelow, IsFormed, IsNull, IsTemplate, IsTwoGate, List, Member, Member-append_left, Member-from_Contains, NetId, Nets, Rails, ShowWord, Shows, Some, StageCell, Table, TableRow, [], ap, append_assoc, arith, choice, difference_row, difference_table, differs, false, here, holds, inl, inr, inverse_row, length, map, member_cases, not, out_of, rail_nets, refl, row_of, row_value, slice_get, subst, sym, table_of, table_value, there, true, ℕ, ◌++◌, ◌∙◌, ◌∷◌, ◌≡◌, ◌≤◌, ◌⊎◌}
 use Rattle.ncl_template.proofs.TwoGates.{two_shown, two_null_first, two_null_second, two_arity, two_reads}
 use Rattle.ncl_template.proofs.Leaves.{IsLeaf, ShowWord-length, shown_nets, one_of_pair, template_of_leaves}
 use Rattle.ncl_template.proofs.InOrder.{AreInOrder, arities-in_order, IsInOrder-from}

@@ -1,12 +1,6 @@
 -- The bytes of a file determine the status of what `compile` replies to them.
-use Rattle.std.proofs.Common.{◌≡◌, ◌≢◌, ℕ, Bool, List, refl, subst, arith}
-use Rattle.std.proofs.lemmas.List.Elements.{All-contains}
-use Rattle.ncl_base.proofs.Members.{Contains-from_slice_get}
-use Rattle.ncl_blif.specs.declared.model.Model.{Model}
-use Rattle.ncl_compile.specs.declared.fault.CompileFault.{CompileFault}
-use Rattle.ncl_compile.specs.declared.fault.CompileFault.TheVariants.{TooWide, TooLong, TooMany, Memory}
-use Rattle.ncl_compile.specs.Size.{IsSlim, IsCompileFault, CanBeCompiled}
-use Rattle.ncl_top.specs.Compiling.{IsModelsReply, too_large, compiled, IsCompileReply, no_models, modelled}
+use Rattle.ncl_top.proofs.Terms.{All-contains, Bool, CanBeCompiled, CompileFault, Contains-from_slice_get, IsCompileFault, IsCompileReply, IsModelsReply, IsSlim, List, Model, TooLong, TooMany, TooWide, arith, compiled, modelled, no_models, refl, subst, too_large, ℕ, ◌≡◌, ◌≢◌}
+use Rattle.ncl_compile.specs.declared.fault.CompileFault.TheVariants.{Memory}
 use Rattle.ncl_top.proofs.ModelsText.{one_models, refused_models_none}
 
 -- models that can be compiled have no fault but want of memory

@@ -1,22 +1,6 @@
 -- What is compiled works at every gate delay, and is accepted.
-use Rattle.std.proofs.Common.{◌≡◌, ℕ, Bool, true, List, Option, Some, None, inl, inr, refl, sym, ap, ◌∙◌, subst, arith}
-use Rattle.std.proofs.lemmas.Bool.{both_ways}
-use Rattle.ncl_base.specs.Files.{Files}
-use Rattle.ncl_blif.specs.declared.model.Model.{Model}
-use Rattle.ncl_netlist.specs.Netlist.{NetlistData}
-use Rattle.ncl_netlist.specs.Parts.{netlist_of}
-use Rattle.ncl_shape.specs.Shape.{Shape}
+use Rattle.ncl_top.proofs.Terms.{Arguments, Bool, Compiled, CompilesWhatWorks, IsCompileReply, IsCompiledText, IsMergedText, IsModelsReply, List, Model, NetlistData, Ran, Shape, SinkState, SourceState, WorksAndIsAccepted, ap, arith, both_ways, compile, compiled, delay_insensitive, inl, inr, merged, modelled, netlist_of, no_models, outcome_is, outcome_of, plain, reads_again, refl, sound_verdict, subst, sym, too_large, true, ℕ, ◌∙◌, ◌≡◌}
 use Rattle.ncl_writer.specs.Text.{text_of}
-use Rattle.ncl_writer.proofs.ReadsBack.{reads_again}
-use Rattle.ncl_verdict.proofs.Accepting.{sound_verdict}
-use Rattle.ncl_insensitivity.proofs.Headline.{delay_insensitive}
-use Rattle.ncl_check.specs.Reply.{outcome_of}
-use Rattle.ncl_check.proofs.OneReply.{outcome_is}
-use Rattle.ncl_compile.specs.Compiled.{Compiled}
-use Rattle.ncl_command.specs.Command.{Arguments, compile}
-use Rattle.ncl_top.specs.Compiling.{IsCompiledText, plain, merged, IsModelsReply, too_large, compiled, IsCompileReply, no_models, modelled}
-use Rattle.ncl_reply.specs.Devices.{SourceState, SinkState}
-use Rattle.ncl_top.specs.Answer.{WorksAndIsAccepted, IsMergedText, Ran, CompilesWhatWorks}
 use Rattle.ncl_top.proofs.Ends.{replied_well}
 use Rattle.ncl_top.proofs.PlainNames.{writable}
 

@@ -1,33 +1,6 @@
 -- The pipeline of the demo.
-use Rattle.std.proofs.Common.{◌≡◌, ◌≢◌, ◌⊎◌, ℕ, ◌+◌, ◌-◌, ◌*◌, ◌<◌, Bool, List, [], ◌∷◌, length, min, inl, inr, sym, ap, ◌∙◌, arith}
-use Rattle.std.specs.Prelude.{All}
-use Rattle.std.specs.List.{range_with_len, AllByRecursion}
-use Rattle.std.proofs.lemmas.List.{length-map}
-use Rattle.std.proofs.lemmas.List.FromFn.{length-range_with_len}
-use Rattle.std.proofs.lemmas.List.Elements.{All-contains}
-use Rattle.ncl_base.proofs.Members.{recursion_from_members, Contains-from_Member}
-use Rattle.ncl_blif.specs.declared.model.Model.{Model}
-use Rattle.ncl_blif.specs.Meaning.{width_of}
-use Rattle.ncl_netlist.specs.Netlist.{NetlistData}
-use Rattle.ncl_shape.specs.declared.fault.ShapeFault.{ShapeFault}
-use Rattle.ncl_shape.specs.declared.fault.ShapeFault.TheVariants.{Memory as ShapeMemory}
-use Rattle.ncl_shape.specs.Pipeline.{PipelineData}
-use Rattle.ncl_shape.specs.Shape.{IsShapeFault}
-use Rattle.ncl_shape.proofs.ShapeLaws.{shape_is_one}
-use Rattle.ncl_shape.proofs.FaultLaws.{shape_is_unbroken}
+use Rattle.ncl_top.proofs.Terms.{All, All-contains, AllByRecursion, Bool, Contains-from_Member, DelaysData, DeliversAll, IsAdder, IsDemoNetlist, IsDemoPipeline, IsDemoRun, IsShapeFault, IsStage, IsTimedRun, IsUnit, List, Model, NetlistData, PipelineData, Quiet, ShapeFault, ShapeMemory, TraceData, [], ap, arith, demo_words, inl, inr, length, length-map, length-range_with_len, min, names_of_rails, no_words_held, one_verdict, range_with_len, recursion_from_members, shape_is_one, shape_is_unbroken, shape_told, sound_verdict, sym, verdict_on, width_of, ℕ, ◌*◌, ◌+◌, ◌-◌, ◌<◌, ◌∙◌, ◌∷◌, ◌≡◌, ◌≢◌, ◌⊎◌}
 use Rattle.ncl_verdict.specs.declared.verdict.Verdict.TheVariants as verdict
-use Rattle.ncl_verdict.proofs.Accepting.{sound_verdict}
-use Rattle.ncl_compile.specs.Ports.{names_of_rails}
-use Rattle.ncl_compile.proofs.NoWordsHeld.{no_words_held}
-use Rattle.ncl_demo.specs.Adder.{IsAdder, IsStage}
-use Rattle.ncl_demo.specs.Offered.{demo_words}
-use Rattle.ncl_delay.specs.Delays.{DelaysData}
-use Rattle.ncl_sim.specs.declared.trace.End.TheVariants.{Quiet}
-use Rattle.ncl_sim.specs.TimedRun.{TraceData, IsTimedRun, DeliversAll}
-use Rattle.ncl_check.specs.Reply.{verdict_on}
-use Rattle.ncl_check.proofs.OneReply.{one_verdict}
-use Rattle.ncl_check.proofs.Refusing.{shape_told}
-use Rattle.ncl_top.specs.Demonstrating.{IsUnit, IsDemoNetlist, IsDemoPipeline, IsDemoRun}
 
 -- its netlist has a shape, and so no fault but want of memory
 pub demo_has_shape : (bits : ℕ) (n : NetlistData) → IsDemoNetlist bits n → (fault : ShapeFault) → fault ≢ ShapeMemory → IsShapeFault n fault → ⊥

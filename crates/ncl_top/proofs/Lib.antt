@@ -1,3 +1,4 @@
+mod Terms
 mod ModelsText
 mod CompileStatus
 mod PlainNames

@@ -1,24 +1,7 @@
 -- There is at most one reply to the files of a comparison.
-use Rattle.std.proofs.Common.{◌≡◌, ◌≢◌, ℕ, List, Some, Result, Ok, Err, refl, sym, ap, ◌∙◌, subst}
-use Rattle.std.specs.Prelude.{codes}
-use Rattle.ncl_base.specs.Files.{Files}
-use Rattle.ncl_blif.specs.declared.model.Model.{Model}
-use Rattle.ncl_shape.specs.Pipeline.{PipelineData}
-use Rattle.ncl_shape.specs.Shape.{Shape}
-use Rattle.ncl_shape.specs.SamePipeline.{IsSamePipeline}
-use Rattle.ncl_shape.proofs.ShapeLaws.{shape_is_one}
-use Rattle.ncl_match.specs.Circuit.{Circuit, circuit_of}
-use Rattle.ncl_match.specs.Answer.{IsAnswer}
-use Rattle.ncl_match.specs.declared.answer.Compared.{Compared}
-use Rattle.ncl_match.specs.declared.answer.Compared.TheVariants.{Same, Differ, Widths}
-use Rattle.ncl_match.specs.declared.answer.CompareFault.{CompareFault}
-use Rattle.ncl_match.specs.declared.answer.CompareFault.TheVariants.{Full, Memory}
-use Rattle.ncl_match.proofs.AnswerLaws.{one_whole}
-use Rattle.ncl_lines.specs.Line.{line, out_of_memory}
-use Rattle.ncl_check.specs.Text.{IsPipelineText, IsRefusedText}
-use Rattle.ncl_check.proofs.OneReply.{one_pipeline, refused_once, refused_is_none}
-use Rattle.ncl_top.specs.Compiling.{AreModelsText, AreRefusedModels}
-use Rattle.ncl_top.specs.Matching.{widths_line, limit_line, differ_line, IsMatched, widths, full, differs, same, IsModelsMatched, no_models, compared, IsMatchReply, no_pipeline, piped}
+use Rattle.ncl_top.proofs.Terms.{AreModelsText, AreRefusedModels, Circuit, CompareFault, Compared, Differ, Err, Files, Full, IsAnswer, IsMatchReply, IsMatched, IsModelsMatched, IsPipelineText, IsRefusedText, IsSamePipeline, List, Model, Ok, PipelineData, Result, Same, Shape, Some, Widths, ap, circuit_of, codes, compared, differ_line, differs, full, limit_line, line, no_pipeline, one_pipeline, one_whole, out_of_memory, refl, refused_is_none, refused_once, same, shape_is_one, subst, sym, widths, widths_line, ℕ, ◌∙◌, ◌≡◌, ◌≢◌}
+use Rattle.ncl_match.specs.declared.answer.CompareFault.TheVariants.{Memory}
+use Rattle.ncl_top.specs.Matching.{no_models, piped}
 use Rattle.ncl_top.proofs.ModelsText.{one_models, refused_models_none, refused_models_once}
 use Rattle.ncl_top.proofs.Simulated.{SameReply}
 

@@ -1,38 +1,6 @@
 -- What is merged from a netlist that is compiled from models is compiled from them.
-use Rattle.std.proofs.Common.{◌≡◌, ℕ, ◌≤◌, ◌+◌, Bool, true, false, not, List, [], ◌∷◌, length, map, inl, inr, sym, ap, ◌∙◌, subst, arith}
-use Rattle.std.specs.Prelude.{All, Contains, nat_eq, filter, if◌then◌else◌}
-use Rattle.std.specs.List.{AllZip, range_with_len, list_any}
-use Rattle.std.proofs.lemmas.Bool.{cases_Bool, eqb-true}
-use Rattle.std.proofs.lemmas.List.{length-map}
-use Rattle.std.proofs.lemmas.List.Elements.{All-contains}
-use Rattle.std.proofs.lemmas.List.FromFn.{length-range_with_len}
-use Rattle.std.proofs.lemmas.Option.{slice_get_within}
-use Rattle.ncl_base.proofs.Members.{Member, here, there, member_cases, Member-map, member_of_map, Member-filter, All-from_members, Contains-from_Member, Member-from_Contains, Contains-from_slice_get, slice_get-from_Contains, slice_get-some, member_from_list_any}
-use Rattle.ncl_blif.specs.declared.model.Model.{Model}
-use Rattle.ncl_blif.specs.Meaning.{width_of}
-use Rattle.ncl_gates.specs.Cell.{is_data_register}
-use Rattle.ncl_netlist.specs.declared.ids.NetId.{NetId}
-use Rattle.ncl_netlist.specs.declared.cell.Cell.{Cell}
-use Rattle.ncl_netlist.specs.declared.parts.PartCell.{PartCell}
-use Rattle.ncl_netlist.specs.Netlist.{NetlistData}
-use Rattle.ncl_netlist.specs.Parts.{part_of}
-use Rattle.ncl_cell_rules.proofs.Drivers.{same_driver}
-use Rattle.ncl_shape.specs.declared.rails.Rails.{Rails}
-use Rattle.ncl_shape.specs.declared.stage.StageCell.{StageCell}
-use Rattle.ncl_shape.specs.Nets.{among}
-use Rattle.ncl_shape.specs.Stage.{StageData, named_rails}
-use Rattle.ncl_shape.specs.Closure.{close, function_of}
-use Rattle.ncl_shape.specs.Pipeline.{PipelineData}
-use Rattle.ncl_shape.specs.SamePipeline.{IsSameStage, IsSamePipeline}
-use Rattle.ncl_shape.specs.Shape.{Shape}
-use Rattle.ncl_shape.proofs.ShapeLaws.{shape_is_one}
-use Rattle.ncl_faults.specs.declared.variant.Variant.TheVariants.{Base}
-use Rattle.ncl_faults.specs.Values.{val}
-use Rattle.ncl_compile.specs.Compiled.{ComputesModel, Compiled, IsPlain, net_named}
-use Rattle.ncl_compile.specs.Ports.{names_of_rails}
-use Rattle.ncl_merge.specs.Choice.{is_stage_cell}
-use Rattle.ncl_merge.specs.Merged.{standing, IsMergedStage, Keeps, Merged}
-use Rattle.ncl_merge.proofs.Keeping.{same-function}
+use Rattle.ncl_top.proofs.Terms.{All, All-contains, All-from_members, AllZip, Base, Bool, Cell, Compiled, ComputesModel, Contains, Contains-from_Member, Contains-from_slice_get, IsMergedStage, IsPlain, IsSamePipeline, IsSameStage, Keeps, List, Member, Member-filter, Member-from_Contains, Member-map, Merged, Model, NetId, NetlistData, PartCell, PipelineData, Rails, Shape, StageCell, StageData, [], among, ap, arith, cases_Bool, close, eqb-true, false, filter, function_of, here, inl, inr, is_data_register, is_stage_cell, length, length-map, length-range_with_len, list_any, map, member_cases, member_from_list_any, member_of_map, named_rails, names_of_rails, nat_eq, net_named, not, part_of, range_with_len, same-function, same_driver, shape_is_one, slice_get-from_Contains, slice_get-some, slice_get_within, standing, subst, sym, there, true, val, width_of, ℕ, ◌+◌, ◌∙◌, ◌∷◌, ◌≡◌, ◌≤◌}
+use Rattle.std.specs.Prelude.{if◌then◌else◌}
 
 -- a stage that is merged from one that computes a model computes it
 computes_model : (n m : NetlistData) (model : Model) (s b t : StageData) → ComputesModel model s → IsSameStage s b → IsMergedStage n m b t → ComputesModel model t

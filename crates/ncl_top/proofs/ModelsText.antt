@@ -1,12 +1,5 @@
 -- The bytes of a file say one list of models, or one line tells why they say none.
-use Rattle.std.proofs.Common.{◌≡◌, ◌≢◌, ℕ, ◌⊎◌, inl, inr, List, refl, sym, ap, ◌∙◌, arith}
-use Rattle.ncl_blif.specs.declared.fault.BlifFault.{BlifFault}
-use Rattle.ncl_blif.specs.declared.fault.BlifFault.TheVariants.{Memory as OutOfMemory}
-use Rattle.ncl_blif.specs.declared.model.Model.{Model}
-use Rattle.ncl_blif.specs.Answer.{IsRefused}
-use Rattle.ncl_blif.proofs.AnswerLaws.{read_is_not_refused, one_refusal}
-use Rattle.ncl_report.specs.BlifText.{blif_line}
-use Rattle.ncl_top.specs.Compiling.{AreModelsText, AreRefusedModels, too_long, unread}
+use Rattle.ncl_top.proofs.Terms.{AreModelsText, AreRefusedModels, BlifFault, IsRefused, List, Model, OutOfMemory, ap, arith, blif_line, inl, inr, one_refusal, read_is_not_refused, refl, sym, too_long, unread, ℕ, ◌∙◌, ◌≡◌, ◌≢◌, ◌⊎◌}
 
 -- a fault that is not want of memory refuses the text
 pub refused : (bytes : List ℕ) (fault : BlifFault) → fault ≢ OutOfMemory → (fault ≡ OutOfMemory) ⊎ IsRefused bytes fault → IsRefused bytes fault

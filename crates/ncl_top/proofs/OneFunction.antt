@@ -1,23 +1,6 @@
 -- What status 0 of a comparison says.
-use Rattle.std.proofs.Common.{◌≡◌, ◌≢◌, ℕ, ◌+◌, ◌-◌, ◌<◌, Bool, true, false, List, [], ◌∷◌, length, get_or, Option, Some, None, Ok, refl, sym, ap, ◌∙◌, subst, arith}
-use Rattle.std.proofs.lemmas.List.{ext_get_or, length-map}
-use Rattle.std.proofs.lemmas.List.Elements.{recursion_from_All}
-use Rattle.ncl_base.specs.Files.{Files, bytes_of}
-use Rattle.ncl_blif.specs.declared.model.Model.{Model}
-use Rattle.ncl_blif.specs.Model.{IsModel, AreModels}
-use Rattle.ncl_blif.specs.Meaning.{Computes}
-use Rattle.ncl_blif.proofs.Composing.{computes_some}
-use Rattle.ncl_shape.specs.declared.rails.Rails.{Rails}
-use Rattle.ncl_shape.specs.Pipeline.{PipelineData}
-use Rattle.ncl_match.specs.Circuit.{Circuit, circuit_of, closed, computed}
-use Rattle.ncl_match.specs.Answer.{IsAnswer, DiffersAt, HaveWidths, bit_of, outputs_of}
-use Rattle.ncl_match.specs.Runs.{Agree}
-use Rattle.ncl_match.specs.declared.answer.Compared.TheVariants.{Same}
-use Rattle.ncl_check.specs.Text.{IsPipelineText}
-use Rattle.ncl_command.specs.Command.{Arguments, matching}
-use Rattle.ncl_top.specs.Matching.{IsMatched, widths, full, differs, same, IsModelsMatched, no_models, compared, IsMatchReply, no_pipeline, piped}
-use Rattle.ncl_reply.specs.Devices.{SourceState, SinkState}
-use Rattle.ncl_top.specs.Answer.{Ran, HaveOneFunction, MatchesWhatIsSame}
+use Rattle.ncl_top.proofs.Terms.{Agree, AreModels, Arguments, Bool, Circuit, Computes, DiffersAt, Files, HaveOneFunction, HaveWidths, IsAnswer, IsMatchReply, IsMatched, IsModel, IsModelsMatched, IsPipelineText, List, MatchesWhatIsSame, Model, Ok, PipelineData, Rails, Ran, Same, SinkState, Some, SourceState, [], ap, arith, bit_of, bytes_of, circuit_of, closed, compared, computed, computes_some, differs, ext_get_or, false, full, get_or, length, length-map, matching, no_pipeline, outputs_of, recursion_from_All, refl, same, subst, sym, true, widths, ℕ, ◌+◌, ◌-◌, ◌<◌, ◌∙◌, ◌∷◌, ◌≡◌, ◌≢◌}
+use Rattle.ncl_top.specs.Matching.{no_models, piped}
 use Rattle.ncl_top.proofs.Ends.{replied_well}
 
 -- bits that don't differ are one

@@ -1,13 +1,5 @@
 -- Plain words can be written.
-use Rattle.std.proofs.Common.{◌≡◌, ℕ, List, [], ◌∷◌, true, refl, get_or}
-use Rattle.std.specs.List.{list_all}
-use Rattle.std.proofs.lemmas.Bool.{and_parts, and_from}
-use Rattle.ncl_netlist.specs.Netlist.{NetlistData}
-use Rattle.ncl_token.specs.Bytes.{begins_word, continues_word, is_graphic}
-use Rattle.ncl_reader.proofs.GraphicNames.{graphic_word, graphic_more}
-use Rattle.ncl_writer.specs.Names.{IsWritableName, IsWritable}
-use Rattle.ncl_blif.specs.declared.model.Model.{Model}
-use Rattle.ncl_compile.specs.Compiled.{IsPlain, Compiled}
+use Rattle.ncl_top.proofs.Terms.{Compiled, IsPlain, IsWritable, IsWritableName, List, Model, NetlistData, [], and_from, and_parts, begins_word, continues_word, get_or, graphic_more, graphic_word, is_graphic, list_all, refl, true, ℕ, ◌∷◌, ◌≡◌}
 
 all_graphic : (name : List ℕ) → list_all continues_word name ≡ true → list_all is_graphic name ≡ true
 all_graphic [] all = refl

@@ -1,17 +1,5 @@
 -- A pipeline of sound stages runs through at whatever delays.
-use Rattle.std.proofs.Common.{◌≡◌, ℕ, ◌==◌, true, Bool, List, length, Some, inl, inr, refl, sym, ap, ◌∙◌, subst, arith, IsTrue}
-use Rattle.std.proofs.lemmas.Bool.Decides.{nat_tests}
-use Rattle.ncl_base.specs.Files.{bytes_of}
-use Rattle.ncl_shape.specs.Pipeline.{PipelineData}
-use Rattle.ncl_machine.specs.Run.{AreWordsOf}
-use Rattle.ncl_sim.specs.declared.trace.End.TheVariants.{Quiet}
-use Rattle.ncl_sim.specs.TimedRun.{TraceData, DeliversAll, words_due}
-use Rattle.ncl_sim.proofs.Existence.{some_run}
-use Rattle.ncl_sim.proofs.Quiet.{sound-ends_quiet, sound-delivers}
-use Rattle.ncl_command.specs.Command.{Arguments, sim, command_of}
-use Rattle.ncl_top.specs.Simulating.{end_status, run_status, run_text, IsRunReply, ran, delayed, piped}
-use Rattle.ncl_reply.specs.Devices.{SourceState, SinkState}
-use Rattle.ncl_top.specs.Answer.{Answer, replied, arguments_determine_text, arguments_determine_status, Ran, AnswersExactly, SimulatesWhatWorks}
+use Rattle.ncl_top.proofs.Terms.{Answer, AnswersExactly, AreWordsOf, Arguments, Bool, DeliversAll, IsRunReply, IsTrue, List, PipelineData, Quiet, Ran, SimulatesWhatWorks, SinkState, Some, SourceState, TraceData, ap, arguments_determine_status, arguments_determine_text, arith, bytes_of, command_of, delayed, end_status, inl, inr, length, nat_tests, piped, ran, refl, replied, run_status, run_text, sim, some_run, sound-delivers, sound-ends_quiet, subst, sym, true, words_due, ℕ, ◌==◌, ◌∙◌, ◌≡◌}
 use Rattle.ncl_top.proofs.Ends.{answers_exactly}
 use Rattle.ncl_top.proofs.WordsRead.{words_fit}
 

@@ -1,16 +1,8 @@
 -- The arguments and the files have at most one status, and at most one text where they determine it.
-use Rattle.std.proofs.Common.{◌≡◌, ℕ, List, Some, None, IsTrue, Bool, true, false, not, refl, sym, ap, ◌∙◌, subst}
-use Rattle.std.proofs.lemmas.Bool.{both_ways}
-use Rattle.ncl_base.specs.Files.{Files}
-use Rattle.ncl_check.specs.Reply.{IsCheckReply}
-use Rattle.ncl_check.proofs.OneReply.{same_reply}
-use Rattle.ncl_command.specs.Command.{Arguments, Command, check, compile, sim, matching, demo, command_of}
-use Rattle.ncl_top.specs.Compiling.{IsCompileReply}
+use Rattle.ncl_top.proofs.Terms.{Answer, Arguments, Bool, Command, Files, IsCheckReply, IsCompileReply, IsFileReply, IsReply, IsTrue, List, None, Some, ap, arguments_determine_status, arguments_determine_text, both_ways, check, command_of, compile, demo, determines_status, determines_text, false, matching, not, not_understood, refl, replied, same_reply, sim, status_of, subst, sym, true, ℕ, ◌∙◌, ◌≡◌}
 use Rattle.ncl_top.proofs.CompileStatus.{same_compile_status}
 use Rattle.ncl_top.proofs.Matched.{one_match_reply}
 use Rattle.ncl_top.proofs.Simulated.{one_sim_reply}
-use Rattle.ncl_reply.specs.Status.{status_of}
-use Rattle.ncl_top.specs.Answer.{IsFileReply, IsReply, Answer, not_understood, replied, arguments_determine_text, determines_text, arguments_determine_status, determines_status}
 
 -- the bytes that both replies are to
 same_file_reply : (files : Files) (file : List ℕ) (limit : ℕ) (why : Bool) (status other : ℕ) (text line : List ℕ) → IsFileReply (Some files) file limit why status text → IsFileReply (Some files) file limit why other line → (status ≡ other) × (why ≡ false → text ≡ line)

@@ -1,11 +1,5 @@
 -- How a call comes to say a text.
-use Rattle.std.proofs.Common.{◌≡◌, Some}
-use Rattle.ncl_command.specs.Command.{Arguments, Command, command_of}
-use Rattle.ncl_reply.specs.Devices.{SourceState}
-use Rattle.ncl_top.specs.Answer.{IsReply, replied, Says, answered}
-use Rattle.ncl_reply.specs.Replies.{Gives}
-use Rattle.ncl_reply.specs.declared.reply.Reply.{Reply}
-use Rattle.ncl_reply.specs.declared.reply.Reply.TheVariants.{Made, Fixed}
+use Rattle.ncl_top.proofs.Terms.{Arguments, Command, Fixed, Gives, IsReply, Made, Reply, Says, Some, SourceState, answered, command_of, replied, ◌≡◌}
 
 -- the reply to the command that the arguments give is what the call says
 pub says_reply : (arguments : Arguments) (before now : SourceState) (command : Command) (reply : Reply) → command_of arguments ≡ Some command → Gives (IsReply command before.files) reply → Gives (Says arguments before now) reply

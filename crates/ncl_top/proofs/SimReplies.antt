@@ -1,25 +1,5 @@
 -- How the parts of a simulation come to its reply.
-use Rattle.std.proofs.Common.{◌≡◌, ◌≢◌, ◌⊎◌, ℕ, ◌≤◌, List, length, Some, Result, Ok, Err, inl, inr, sym, subst, arith}
-use Rattle.ncl_base.specs.declared.source.TheConstants.{MOST_BYTES}
-use Rattle.ncl_netlist.specs.Netlist.{NetlistData}
-use Rattle.ncl_delay.specs.Lines.{told_lines}
-use Rattle.ncl_delay.specs.DelayText.{cell_names, fault_in}
-use Rattle.ncl_delay.specs.WordText.{words_fault}
-use Rattle.ncl_delay.specs.declared.fault.DelayFault.{DelayFault}
-use Rattle.ncl_delay.specs.declared.fault.DelayFault.TheVariants.{Memory as DelayMemory}
-use Rattle.ncl_delay.specs.declared.fault.WordsFault.{WordsFault}
-use Rattle.ncl_delay.specs.declared.fault.WordsFault.TheVariants.{Memory as WordsMemory}
-use Rattle.ncl_report.specs.DelayText.{delay_line, words_line}
-use Rattle.ncl_base.specs.declared.word.TheConstants.{MOST_BITS}
-use Rattle.ncl_shape.specs.Pipeline.{PipelineData}
-use Rattle.ncl_shape.specs.Shape.{Shape}
-use Rattle.ncl_cell_roles.proofs.LaidOut.{laid_out_of}
-use Rattle.ncl_reply.specs.declared.reply.Reply.{Reply}
-use Rattle.ncl_reply.specs.declared.reply.Reply.TheVariants.{Made, Fixed}
-use Rattle.ncl_reply.specs.declared.fault.Fault.{Fault}
-use Rattle.ncl_reply.specs.Replies.{Gives, Replies}
-use Rattle.ncl_reply.proofs.Refusals.{Refuses-weaker}
-use Rattle.ncl_top.specs.Simulating.{AreRefusedDelays, AreRefusedWords, broken_delays, broken_words}
+use Rattle.ncl_top.proofs.Terms.{AreRefusedDelays, AreRefusedWords, DelayFault, DelayMemory, Err, Fault, Fixed, Gives, List, MOST_BITS, MOST_BYTES, Made, NetlistData, Ok, PipelineData, Refuses-weaker, Replies, Reply, Result, Shape, Some, WordsFault, WordsMemory, arith, broken_delays, broken_words, cell_names, delay_line, fault_in, inl, inr, laid_out_of, length, subst, sym, told_lines, words_fault, words_line, ℕ, ◌≡◌, ◌≢◌, ◌≤◌, ◌⊎◌}
 
 -- a reply that stands in one relation stands in another that follows
 pub gives_from : (relation other : ℕ → List ℕ → Type 0) → ((status : ℕ) (text : List ℕ) → relation status text → other status text) → (r : Reply) → Gives relation r → Gives other r

@@ -1,22 +1,6 @@
 -- There is at most one reply to the files of a simulation.
-use Rattle.std.proofs.Common.{◌≡◌, ℕ, ◌+◌, ◌==◌, Bool, true, false, List, [], ◌∷◌, length, map, Some, None, refl, sym, ap, ◌∙◌, subst, arith}
-use Rattle.ncl_base.specs.Files.{Files}
-use Rattle.ncl_base.specs.Words.{text_of, character_of}
-use Rattle.ncl_netlist.specs.Netlist.{NetlistData}
-use Rattle.ncl_shape.specs.Held.{data_banks}
-use Rattle.ncl_shape.specs.Pipeline.{PipelineData}
-use Rattle.ncl_shape.specs.Shape.{Shape}
-use Rattle.ncl_shape.proofs.ShapeLaws.{shape_is_one}
-use Rattle.ncl_delay.specs.Delays.{DelaysData}
-use Rattle.ncl_sim.specs.TimedRun.{TraceData, IsTimedRun, words_due}
-use Rattle.ncl_sim.proofs.Oneness.{one_run}
-use Rattle.ncl_sim.proofs.SameRuns.{same_runs}
-use Rattle.ncl_report.specs.DelayText.{delay_line, words_line}
-use Rattle.ncl_report.specs.TraceText.{trace_lines}
-use Rattle.ncl_vcd.proofs.SameDumps.{same_dump}
-use Rattle.ncl_check.specs.Text.{IsPipelineText, IsRefusedText}
-use Rattle.ncl_check.proofs.OneReply.{one_pipeline, refused_once, refused_is_none}
-use Rattle.ncl_top.specs.Simulating.{AreDelaysText, AreRefusedDelays, long_delays, broken_delays, AreWordsText, AreRefusedWords, long_words, broken_words, end_status, run_status, run_text, IsRunReply, IsWordsReply, no_words, ran, IsDelaysReply, no_delays, delayed, IsSimReply, no_pipeline, piped}
+use Rattle.ncl_top.proofs.Terms.{AreDelaysText, AreRefusedDelays, AreRefusedWords, AreWordsText, Bool, DelaysData, Files, IsDelaysReply, IsPipelineText, IsRefusedText, IsRunReply, IsSimReply, IsTimedRun, IsWordsReply, List, NetlistData, None, PipelineData, Shape, Some, TraceData, [], ap, arith, broken_delays, broken_words, character_of, data_banks, delay_line, delayed, end_status, false, length, long_delays, long_words, map, no_delays, no_words, one_pipeline, one_run, piped, ran, refl, refused_is_none, refused_once, run_status, run_text, same_dump, same_runs, shape_is_one, subst, sym, text_of, trace_lines, true, words_due, words_line, ℕ, ◌+◌, ◌==◌, ◌∙◌, ◌∷◌, ◌≡◌}
+use Rattle.ncl_top.specs.Simulating.{no_pipeline}
 
 -- where the items that a function tells alike are one, so are the lists that it tells alike
 one_list : {X Y : Type 0} (f : X → Y) → ((x y : X) → f x ≡ f y → x ≡ y) → (xs ys : List X) → map f xs ≡ map f ys → xs ≡ ys

@@ -1,24 +1,8 @@
 -- The statuses of failed devices come from failed devices alone.
-use Rattle.std.proofs.Common.{◌≡◌, ◌≢◌, ℕ, Bool, true, false, List, Option, sym, subst, arith}
-use Rattle.ncl_base.specs.Files.{Files, Rose}
-use Rattle.ncl_blif.specs.declared.model.Model.{Model}
-use Rattle.ncl_check.specs.declared.reply.Outcome.{Outcome}
-use Rattle.ncl_check.specs.declared.reply.Outcome.TheVariants.{Accepted, Refused, NoPipeline, Unjudged}
-use Rattle.ncl_shape.specs.Pipeline.{PipelineData}
-use Rattle.ncl_delay.specs.Delays.{DelaysData}
-use Rattle.ncl_sim.specs.declared.trace.End.{End}
-use Rattle.ncl_sim.specs.declared.trace.End.TheVariants.{Quiet, Hazard, Over}
-use Rattle.ncl_command.specs.Command.{Arguments, Command, check, compile, sim, matching, demo}
-use Rattle.ncl_top.specs.Compiling.{IsModelsReply, IsCompileReply, too_large, compiled, no_models, modelled}
-use Rattle.ncl_top.specs.Demonstrating.{IsDemoReply}
+use Rattle.ncl_top.proofs.Terms.{Accepted, Answer, Arguments, Bool, CameOut, Circuit, Command, DelaysData, End, Files, Hazard, IsCompileReply, IsDelaysReply, IsDemoReply, IsMatchReply, IsMatched, IsModelsMatched, IsModelsReply, IsReply, IsRunReply, IsSimReply, IsWordsReply, List, Model, NoPipeline, Option, Outcome, Over, PipelineData, Quiet, Ran, Refused, Rose, Says, SinkState, SourceState, Unjudged, answered, arith, check, circuit_of, compile, compiled, cut_short, delayed, demo, end_status, false, matching, modelled, no_delays, no_memory, no_models, no_words, not_understood, piped, ran, read_failed, replied, sim, status_of, subst, sym, too_large, true, whole, ℕ, ◌≡◌, ◌≢◌}
 use Rattle.ncl_top.specs.Demonstrating as demonstrating
-use Rattle.ncl_match.specs.Circuit.{Circuit, circuit_of}
-use Rattle.ncl_top.specs.Matching.{IsMatched, IsModelsMatched, IsMatchReply}
 use Rattle.ncl_top.specs.Matching as compares
-use Rattle.ncl_top.specs.Simulating.{end_status, IsRunReply, IsWordsReply, IsDelaysReply, IsSimReply, no_words, ran, no_delays, delayed, no_pipeline, piped}
-use Rattle.ncl_reply.specs.Devices.{SourceState, SinkState, CameOut, whole, cut_short}
-use Rattle.ncl_reply.specs.Status.{status_of}
-use Rattle.ncl_top.specs.Answer.{IsReply, Answer, not_understood, replied, Says, answered, read_failed, no_memory, Ran}
+use Rattle.ncl_top.specs.Simulating.{no_pipeline}
 
 -- neither that of a source that failed nor that of a sink that did
 abbrev IsOfNoFault : ℕ → Type 0

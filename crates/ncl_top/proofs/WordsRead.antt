@@ -1,16 +1,5 @@
 -- The words that a text says.
-use Rattle.std.proofs.Common.{◌≡◌, ℕ, ◌+◌, ◌<◌, ◌≤◌, ◌==◌, Bool, true, false, if◌then◌else◌, List, [], ◌∷◌, length, map, Some, None, refl, sym, ap, ◌∙◌, arith}
-use Rattle.std.specs.Prelude.{nat_lt}
-use Rattle.std.specs.List.{AllByRecursion, list_all}
-use Rattle.std.proofs.lemmas.Bool.Decides.{nat_tests}
-use Rattle.std.proofs.lemmas.List.{length-map}
-use Rattle.ncl_base.specs.Words.{text_of, character_of}
-use Rattle.ncl_base.specs.TextLines.{NumberedText}
-use Rattle.ncl_base.proofs.Tests.{option_or-none}
-use Rattle.ncl_delay.specs.Lines.{told_lines}
-use Rattle.ncl_delay.specs.WordText.{is_bit, word_fault, words_fault}
-use Rattle.ncl_delay.specs.declared.word_text.TheConstants.{MOST_WORDS}
-use Rattle.ncl_top.specs.Simulating.{AreWordsText}
+use Rattle.ncl_top.proofs.Terms.{AllByRecursion, AreWordsText, Bool, List, MOST_WORDS, None, NumberedText, Some, [], ap, arith, character_of, false, if◌then◌else◌, is_bit, length, length-map, list_all, map, nat_lt, nat_tests, option_or-none, refl, sym, text_of, told_lines, true, word_fault, words_fault, ℕ, ◌+◌, ◌<◌, ◌==◌, ◌∙◌, ◌∷◌, ◌≡◌, ◌≤◌}
 
 -- what passes three tests passes the second and the third
 passes : {X : Type 0} (first second third : Bool) (x y z : X) → (if first then (if second then (if third then None else Some x) else Some y) else Some z) ≡ None → (second ≡ true) × (third ≡ true)

@@ -42,12 +42,6 @@ gate_reads family _ _ _ (more g rest gates root fits tree) (b ∷ before) after 
     subst (λ (b : StageCell). Member net ((g.ins.items ++ rest) ++ b.out ∷ outs_of before)) same
     (known_more net g.ins.items rest g.out (outs_of before) (gate_reads family (rest ++ g.out ∷ []) gates root tree before after c later net m))
 
--- the root is a leaf, or the output of a gate
-pub root_is_known : (family : Family) (leaves : List NetId) (made : List StageCell) (root : NetId) → GateTree family leaves made root → Member root (leaves ++ outs_of made)
-root_is_known family _ _ _ (one net) = here
-root_is_known family _ _ _ (more g rest gates root fits tree) =
-    known_more root g.ins.items rest g.out (outs_of gates) (root_is_known family (rest ++ g.out ∷ []) gates root tree)
-
 -- each leaf and each output of a gate is read by a gate, but for the root
 pub root_or_read : (family : Family) (leaves : List NetId) (made : List StageCell) (root : NetId) → GateTree family leaves made root → (net : NetId) → Member net (leaves ++ outs_of made) → (net ≡ root) ⊎ IsRead made net
 root_or_read family _ _ _ (one root) net m = elim (member_cases net root [] m) [ inl same ↦ inl (sym same) | inr none ↦ elim none [ ] ]

@@ -1,7 +1,6 @@
 -- Changes of nets over time, and texts that fit on a line.
-use Rattle.std.specs.Prelude.{◌≢◌, ℕ, ◌^◌, ◌<◌, ◌≤◌, nat_eq, nat_lt, Bool, List, [], ◌∷◌, cond}
-use Rattle.std.specs.List.{AllByRecursion}
-use Rattle.ncl_vcd.specs.Dump.{ValueChange}
+use Rattle.ncl_vcd.proofs.Terms.{AllByRecursion, ValueChange, nat_eq, nat_lt}
+use Rattle.std.specs.Prelude.{◌≢◌, ℕ, ◌^◌, ◌<◌, ◌≤◌, Bool, List, [], ◌∷◌, cond}
 
 -- the value of a net after a change, where only changes up to a time count
 abbrev pub after_change : ℕ → ℕ → Bool → ValueChange → Bool

@@ -1,7 +1,5 @@
 -- The laws of codes: they are one to one, and their characters print.
-use Rattle.std.proofs.Common.{◌≡◌, ℕ, zero, suc, ◌+◌, ◌-◌, ◌*◌, ◌/◌, ◌≤◌, List, [], ◌∷◌, refl, sym, ap, ◌∙◌, arith}
-use Rattle.std.specs.List.{AllByRecursion}
-use Rattle.ncl_vcd.specs.Codes.{identifier_code, characters_left}
+use Rattle.ncl_vcd.proofs.Terms.{AllByRecursion, List, [], ap, arith, characters_left, identifier_code, refl, suc, sym, zero, ℕ, ◌*◌, ◌+◌, ◌-◌, ◌/◌, ◌∙◌, ◌∷◌, ◌≡◌, ◌≤◌}
 
 -- the number of a code
 number_in : List ℕ → ℕ

@@ -1,16 +1,5 @@
 -- The law of levels: what a dump says of a net at a time is its value then.
-use Rattle.std.proofs.Common.{◌≡◌, ◌≢◌, ℕ, zero, suc, ◌+◌, ◌^◌, ◌<◌, ◌≤◌, Bool, true, false, not, cond, ◌&&◌, List, [], ◌∷◌, ◌++◌, length, get_or, Option, Some, None, inl, inr, refl, sym, ap, ◌∙◌, arith, append_assoc, decimal}
-use Rattle.std.specs.Prelude.{nat_eq, nat_lt, codes}
-use Rattle.std.specs.List.{AllByRecursion, flat_map, take_while}
-use Rattle.std.specs.Char.{digit_value}
-use Rattle.std.specs.Str.Parse.{AllDigits}
-use Rattle.std.proofs.lemmas.Bool.{cases_eq, cases_lt, eqb-true, eq-eqb, ne_eqb, and_parts, both_ways, not-true}
-use Rattle.std.proofs.lemmas.List.{append-nil}
-use Rattle.std.proofs.lemmas.List.Sums.{take_while-cons}
-use Rattle.std.proofs.lemmas.Fmt.{decimal_is_IsNumeral}
-use Rattle.ncl_vcd.specs.Codes.{identifier_code}
-use Rattle.ncl_vcd.specs.Dump.{ValueChange, line, value_line, time_line, variable_line, variable_lines, value_lines, change_lines, declaration_lines, initial_lines, dump_lines, dump_text}
-use Rattle.ncl_vcd.specs.Level.{lines_from, lines_of, time_of, is_after, is_time, is_later, is_line, told, told_by, from_time, level}
+use Rattle.ncl_vcd.proofs.Terms.{AllByRecursion, AllDigits, Bool, List, None, Option, Some, ValueChange, [], and_parts, ap, append-nil, append_assoc, arith, both_ways, cases_eq, cases_lt, change_lines, codes, cond, decimal, decimal_is_IsNumeral, declaration_lines, digit_value, dump_lines, dump_text, eq-eqb, eqb-true, false, flat_map, from_time, get_or, identifier_code, initial_lines, inl, inr, is_after, is_later, is_line, is_time, length, level, line, lines_from, lines_of, nat_eq, nat_lt, ne_eqb, not, not-true, refl, suc, sym, take_while, take_while-cons, time_line, time_of, told, told_by, true, value_line, value_lines, variable_line, variable_lines, zero, ℕ, ◌&&◌, ◌++◌, ◌+◌, ◌<◌, ◌^◌, ◌∙◌, ◌∷◌, ◌≡◌, ◌≢◌, ◌≤◌}
 use Rattle.ncl_vcd.proofs.Changes.{after_change, value_at, Rise, IsOneLine}
 use Rattle.ncl_vcd.proofs.CodeLaws.{code-injective, code-prints}
 

@@ -1,3 +1,4 @@
+mod Terms
 mod CodeLaws
 mod Changes
 mod LevelLaws

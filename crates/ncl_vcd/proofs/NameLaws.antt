@@ -1,12 +1,5 @@
 -- Names of printing characters fit on a line.
-use Rattle.std.proofs.Common.{◌≡◌, ℕ, ◌≤◌, true, List, [], ◌∷◌, arith}
-use Rattle.std.specs.Prelude.{All}
-use Rattle.std.specs.List.{AllByRecursion, list_all}
-use Rattle.std.proofs.lemmas.Bool.{and_parts}
-use Rattle.std.proofs.lemmas.Bool.Decides.{nat_tests}
-use Rattle.std.proofs.lemmas.List.Elements.{All-head, All-tail}
-use Rattle.ncl_token.specs.Bytes.{is_graphic}
-use Rattle.ncl_reader.specs.GraphicNames.{IsGraphicName}
+use Rattle.ncl_vcd.proofs.Terms.{All, All-head, All-tail, AllByRecursion, IsGraphicName, List, [], and_parts, arith, is_graphic, list_all, nat_tests, true, ℕ, ◌∷◌, ◌≡◌, ◌≤◌}
 use Rattle.ncl_vcd.proofs.Changes.{IsOneLine}
 
 graphic_least : (byte : ℕ) → is_graphic byte ≡ true → 33 ≤ byte

@@ -1,14 +1,5 @@
 -- The items of a run are those of the pipeline.
-use Rattle.std.proofs.Common.{zero, suc, List, [], ◌∷◌, arith}
-use Rattle.std.specs.Prelude.{All}
-use Rattle.ncl_shape.specs.Pipeline.{PipelineData}
-use Rattle.ncl_machine.specs.State.{State}
-use Rattle.ncl_machine.specs.Steps.{step}
-use Rattle.ncl_machine.specs.Run.{IsRunFrom}
-use Rattle.ncl_machine.specs.Held.{InRange}
-use Rattle.ncl_machine.proofs.EnabledItems.{item_in_range}
-use Rattle.ncl_delay.specs.declared.fired.Fired.{Fired}
-use Rattle.ncl_sim.specs.TimedRun.{items_in}
+use Rattle.ncl_vcd.proofs.Terms.{All, Fired, InRange, IsRunFrom, List, PipelineData, State, [], arith, item_in_range, items_in, step, suc, zero, ◌∷◌}
 
 pub run-range : (p : PipelineData) (s : State) (steps : List Fired) → IsRunFrom p s (items_in steps) → All (λ (f : Fired). InRange p f.item) steps
 run-range p s [] run k d lt = absurd (omega arith)

@@ -1,26 +1,6 @@
 -- What the changes of a run come to: the values of its states, and that times never fall.
-use Rattle.std.proofs.Common.{◌≡◌, ◌≢◌, ◌⊎◌, ℕ, ◌+◌, ◌^◌, ◌<◌, ◌≤◌, Bool, true, false, cond, eqb, List, [], ◌∷◌, ◌++◌, length, get_or, Some, inl, inr, refl, sym, ap, ◌∙◌, subst, arith, append_assoc}
-use Rattle.std.specs.Prelude.{nat_eq, nat_le, nat_lt}
-use Rattle.std.specs.List.{AllByRecursion, range_with_len}
-use Rattle.std.proofs.lemmas.Bool.{cases_eq, cases_lt, eq-eqb, ne_eqb}
-use Rattle.std.proofs.lemmas.List.{get_or-map, length-map}
-use Rattle.std.proofs.lemmas.List.FromFn.{get_or-range_with_len, length-range_with_len}
-use Rattle.ncl_shape.specs.declared.item.Item.{Item}
-use Rattle.ncl_shape.specs.Pipeline.{PipelineData}
-use Rattle.ncl_machine.specs.OneChange.{net_of_step}
-use Rattle.ncl_machine.specs.Run.{IsRunFrom, after}
-use Rattle.ncl_machine.specs.State.{State}
-use Rattle.ncl_machine.specs.Steps.{enabled, step}
-use Rattle.ncl_machine.proofs.AtWorkLaws.{with_net-elsewhere}
-use Rattle.ncl_delay.specs.Delays.{DelaysData}
-use Rattle.ncl_delay.specs.declared.fired.Fired.{Fired}
-use Rattle.ncl_sim.specs.Numbers.{item_number}
-use Rattle.ncl_sim.specs.TimedRun.{IsNext, due_after, items_in, last_time, state_after}
-use Rattle.ncl_sim.proofs.Locality.{enabled-net, step-value}
-use Rattle.ncl_sim.proofs.Looks.{due-looked}
-use Rattle.ncl_sim.proofs.Times.{fresh_or_old, last_time-more, not-after}
+use Rattle.ncl_vcd.proofs.Terms.{AllByRecursion, Bool, DelaysData, Fired, IsNext, IsRunFrom, Item, List, PipelineData, Some, State, [], after, ap, append_assoc, arith, cases_eq, cases_lt, change_by, changes_of, cond, due-looked, due_after, enabled, enabled-net, eq-eqb, eqb, false, fresh_or_old, get_or, get_or-map, get_or-range_with_len, inl, inr, item_number, items_in, last_time, last_time-more, length, length-map, length-range_with_len, nat_eq, nat_le, nat_lt, ne_eqb, net_of_step, not-after, range_with_len, refl, state_after, step, step-value, subst, sym, true, until_time, values_in, with_net-elsewhere, ℕ, ◌++◌, ◌+◌, ◌<◌, ◌^◌, ◌∙◌, ◌∷◌, ◌≡◌, ◌≢◌, ◌≤◌}
 use Rattle.ncl_vcd.proofs.Changes.{Rise, value_at}
-use Rattle.ncl_vcd.specs.RunDump.{change_by, changes_of, until_time, values_in}
 use Rattle.ncl_vcd.proofs.LevelLaws.{value_at-later}
 
 -- ---- times

@@ -1,19 +1,5 @@
 -- A dump asks nothing of a pipeline's stages, so the pipelines of one netlist have the same dumps.
-use Rattle.std.proofs.Common.{◌≡◌, Bool, List, [], ◌∷◌, ◌++◌, refl, sym, ap, ◌∙◌, subst}
-use Rattle.ncl_netlist.specs.Netlist.{NetlistData}
-use Rattle.ncl_shape.specs.declared.item.Item.{Item}
-use Rattle.ncl_shape.specs.declared.item.Item.TheVariants.{Cell as Fire, Raise, Lower, Take, Ready}
-use Rattle.ncl_shape.specs.Stage.{StageData}
-use Rattle.ncl_shape.specs.Pipeline.{PipelineData}
-use Rattle.ncl_shape.specs.Shape.{Shape}
-use Rattle.ncl_shape.proofs.ShapeLaws.{shape_is_one}
-use Rattle.ncl_machine.specs.OneChange.{net_of_step}
-use Rattle.ncl_machine.specs.State.{State, reset}
-use Rattle.ncl_machine.specs.Steps.{step}
-use Rattle.ncl_insensitivity.proofs.SamePipelineLaws.{with_stages, step-same, other-is}
-use Rattle.ncl_delay.specs.declared.fired.Fired.{Fired}
-use Rattle.ncl_vcd.specs.Dump.{dump_text}
-use Rattle.ncl_vcd.specs.RunDump.{change_by, changes_of, dump_of, values_in}
+use Rattle.ncl_vcd.proofs.Terms.{Bool, Fire, Fired, Item, List, Lower, NetlistData, PipelineData, Raise, Ready, Shape, StageData, State, Take, [], ap, change_by, changes_of, dump_of, dump_text, net_of_step, other-is, refl, reset, shape_is_one, step, step-same, subst, sym, values_in, with_stages, ◌++◌, ◌∙◌, ◌∷◌, ◌≡◌}
 
 module _ (p : PipelineData) (stages : List StageData) where
   net-same : (s : State) (item : Item) → net_of_step (with_stages p stages) s item ≡ net_of_step p s item

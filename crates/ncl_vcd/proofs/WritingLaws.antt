@@ -1,18 +1,5 @@
 -- The text of a dump as it is written, part by part.
-use Rattle.std.proofs.Common.{◌≡◌, ℕ, suc, ◌+◌, ◌^◌, ◌<◌, Bool, List, [], ◌∷◌, ◌++◌, map, length, take, get_or, Some, refl, sym, ap, ◌∙◌, arith, append_assoc}
-use Rattle.std.specs.List.{AllByRecursion, flat_map, range_with_len}
-use Rattle.std.proofs.lemmas.List.{append-nil, length-map, length-take-le, take_more}
-use Rattle.std.proofs.lemmas.List.Concat.{flat_map-append}
-use Rattle.std.proofs.lemmas.List.FromFn.{length-range_with_len, map-range_with_len_more}
-use Rattle.ncl_shape.specs.Pipeline.{PipelineData}
-use Rattle.ncl_machine.specs.OneChange.{net_of_step}
-use Rattle.ncl_machine.specs.Run.{IsRunFrom}
-use Rattle.ncl_machine.specs.State.{State}
-use Rattle.ncl_machine.specs.Steps.{step}
-use Rattle.ncl_delay.specs.declared.fired.Fired.{Fired}
-use Rattle.ncl_sim.specs.TimedRun.{items_in}
-use Rattle.ncl_vcd.specs.Dump.{change_lines, line, variable_line, variable_lines, time_lines, value_line, value_lines}
-use Rattle.ncl_vcd.specs.RunDump.{change_by, changes_of}
+use Rattle.ncl_vcd.proofs.Terms.{AllByRecursion, Bool, Fired, IsRunFrom, List, PipelineData, Some, State, [], ap, append-nil, append_assoc, arith, change_by, change_lines, changes_of, flat_map, flat_map-append, get_or, items_in, length, length-map, length-range_with_len, length-take-le, line, map, map-range_with_len_more, net_of_step, range_with_len, refl, step, suc, sym, take, take_more, time_lines, value_line, value_lines, variable_line, variable_lines, ℕ, ◌++◌, ◌+◌, ◌<◌, ◌^◌, ◌∙◌, ◌∷◌, ◌≡◌}
 
 variable_lines-append : (from : ℕ) (xs ys : List (List ℕ)) → variable_lines from (xs ++ ys) ≡ variable_lines from xs ++ variable_lines (from + length xs) ys
 variable_lines-append from [] ys = ap (λ n. variable_lines n ys) (let e : from ≡ from + 0 = omega arith in e)

@@ -1,21 +1,8 @@
 -- Sound stages are accepted, or one of them passes the limit.
-use Rattle.std.proofs.Common.{◌≡◌, ℕ, suc, ◌≤◌, ◌<◌, ◌⊎◌, Bool, false, List, [], ◌∷◌, map, Option, Some, None, inl, inr, refl, ap, ◌∙◌, subst, arith}
-use Rattle.std.specs.Prelude.{All, cond, if◌then◌else◌, option_and_then, unwrap_or}
-use Rattle.std.specs.List.{find}
-use Rattle.std.proofs.lemmas.Bool.Decides.{leb_tells}
-use Rattle.std.proofs.lemmas.List.Elements.{All-contains}
-use Rattle.ncl_base.proofs.Members.{Member, here, there, member_cases, Contains-from_Member, Member-from_Contains}
-use Rattle.ncl_shape.specs.Stage.{StageData}
-use Rattle.ncl_stage.specs.BitOrder.{bit_order, words_by}
-use Rattle.ncl_stage.proofs.OrderLaws.{words_by-length}
-use Rattle.ncl_stage.proofs.OrderedTables.{order-is}
-use Rattle.ncl_faults.specs.declared.variant.Variant.{Variant}
-use Rattle.ncl_faults.specs.Faults.{StageFault, shows, IsSound}
-use Rattle.ncl_stage.specs.Tables.{count}
-use Rattle.ncl_verdict.specs.declared.verdict.Verdict.{Verdict}
+use Rattle.ncl_verdict.proofs.Terms.{All, All-contains, AreWithin, Bool, Contains-from_Member, IsSound, IsWithin, List, Member, Member-from_Contains, None, Option, Some, StageData, StageFault, Variant, Verdict, [], ap, arith, at_variant, bit_order, count, false, find, first_of, found, here, if◌then◌else◌, inl, inr, judgement, leb_tells, map, member_cases, of_stage, option_and_then, order-is, refl, shows, stopped_at, subst, suc, there, unwrap_or, variants, verdict_of, words_by, words_by-length, ℕ, ◌<◌, ◌∙◌, ◌∷◌, ◌≡◌, ◌≤◌, ◌⊎◌}
+use Rattle.std.specs.Prelude.{cond}
 use Rattle.ncl_verdict.specs.declared.verdict.Verdict.TheVariants as verdict
-use Rattle.ncl_verdict.specs.Judgement.{stopped_at, verdict_of, variants, faults_of, found, first_of, at_variant, of_stage, judgement}
-use Rattle.ncl_verdict.specs.Within.{IsWithin, AreWithin}
+use Rattle.ncl_verdict.specs.Judgement.{faults_of}
 
 -- where no item passes, nothing is found
 find-nothing : {X : Type 0} (test : X → Bool) (xs : List X) → ((x : X) → Member x xs → test x ≡ false) → find test xs ≡ None

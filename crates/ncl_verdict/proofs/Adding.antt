@@ -1,11 +1,5 @@
 -- The bits of a mask, added to those at some places.
-use Rattle.std.proofs.Common.{◌≡◌, ◌≢◌, ℕ, ◌+◌, ◌-◌, ◌*◌, ◌^◌, ◌<◌, ◌≤◌, List, [], length, min, get_or, set, inl, inr, sym, ◌∙◌, subst, arith}
-use Rattle.std.specs.Prelude.{All, Contains, bit_or}
-use Rattle.std.proofs.lemmas.Bool.{cases_eq, cases_lt}
-use Rattle.std.proofs.lemmas.List.{get_or-set_other, get_or-set_same, get_or_default, length-set}
-use Rattle.std.proofs.lemmas.List.Elements.{All-contains}
-use Rattle.ncl_stage.specs.Wiring.{WiringData}
-use Rattle.ncl_verdict.specs.Masks.{AreReaches, Covers, IsPart, both, mask_at}
+use Rattle.ncl_verdict.proofs.Terms.{All, All-contains, AreReaches, Contains, Covers, IsPart, List, WiringData, [], arith, bit_or, both, cases_eq, cases_lt, get_or, get_or-set_other, get_or-set_same, get_or_default, inl, inr, length, length-set, mask_at, min, set, subst, sym, ℕ, ◌*◌, ◌+◌, ◌-◌, ◌<◌, ◌^◌, ◌∙◌, ◌≡◌, ◌≢◌, ◌≤◌}
 use Rattle.ncl_verdict.proofs.MaskLaws.{part-along, part-left, part-right}
 
 -- ---- at one place

@@ -1,29 +1,7 @@
 -- What variants are asked over: Base alone, or Base and what earlier variants made.
-use Rattle.std.proofs.Common.{◌≡◌, ℕ, Bool, true, false, List, [], ◌∷◌, length, get_or, Option, Some, Result, IfOk, refl, sym, ap, ◌∙◌, subst, arith}
-use Rattle.std.specs.Prelude.{All, IsTrue, option_and_then}
+use Rattle.ncl_verdict.proofs.Terms.{All, All-member, AskedData, Base, Beads, Bit, Bool, Cell, Full, IfOk, IfOk-weaker, Incomplete, IsAfterBase, IsAsked, IsLive, IsReady, IsSpace, IsTrue, Keeps, List, Memory, Option, Orphan, Ref, Releases, Result, Some, SpaceData, SpaceFault, StageData, StageFault, Variant, Verdict, [], ap, arith, at_variant, count, distinct_beads, distinct_beads-append, false, faults_of, fits, fits_fewer, get_or, have-kept, is_within, least_word_by, length, map-same, net_tables_by, option_and_then, refl, stopped_within, subst, sym, tables_by, tables_of, true, verdict_of, ℕ, ◌∙◌, ◌∷◌, ◌≡◌}
 use Rattle.std.specs.FinSet as set
-use Rattle.std.proofs.lemmas.Result.{IfOk-weaker}
-use Rattle.ncl_base.specs.declared.memory.Memory.{Memory}
-use Rattle.ncl_base.proofs.Tests.{All-member, map-same}
-use Rattle.ncl_shape.specs.Stage.{StageData}
-use Rattle.ncl_space.specs.Beads.{Beads, distinct_beads}
-use Rattle.ncl_space.specs.Space.{SpaceData, IsSpace, IsLive, Keeps, Releases, fits, is_within}
-use Rattle.ncl_space.specs.declared.space.Ref.{Ref}
-use Rattle.ncl_space.specs.declared.space.SpaceFault.{SpaceFault}
-use Rattle.ncl_space.specs.declared.space.SpaceFault.TheVariants.{Full}
-use Rattle.ncl_space.proofs.BeadLaws.{distinct_beads-append}
-use Rattle.ncl_space.proofs.MakingLaws.{have-kept}
-use Rattle.ncl_space.proofs.SpaceLaws.{fits_fewer}
-use Rattle.ncl_faults.specs.declared.variant.Variant.{Variant}
-use Rattle.ncl_faults.specs.declared.variant.Variant.TheVariants.{Base, Bit, Cell}
-use Rattle.ncl_faults.specs.Faults.{Incomplete, Orphan, StageFault}
-use Rattle.ncl_stage.specs.LeastWords.{faults_of, least_word_by}
-use Rattle.ncl_stage.specs.StageTables.{net_tables_by}
-use Rattle.ncl_stage.specs.Tables.{count, tables_by, tables_of}
-use Rattle.ncl_verdict.specs.declared.verdict.Verdict.{Verdict}
 use Rattle.ncl_verdict.specs.declared.verdict.Verdict.TheVariants as verdict
-use Rattle.ncl_verdict.specs.Judgement.{at_variant, verdict_of}
-use Rattle.ncl_verdict.specs.InSpace.{AskedData, IsAfterBase, IsAsked, IsReady, stopped_within}
 use Rattle.ncl_verdict.proofs.InSpaceLaws.{fits-ready, said-asked, said-full}
 
 -- what keeps what was there keeps it so

@@ -1,11 +1,5 @@
 -- The judgement within a limit of nodes, as a verdict that computes.
-use Rattle.std.proofs.Common.{◌≡◌, ℕ, List, Some, None, ap}
-use Rattle.std.specs.Prelude.{nat_lt, if◌then◌else◌}
-use Rattle.ncl_shape.specs.Stage.{StageData}
-use Rattle.ncl_faults.specs.declared.variant.Variant.{Variant}
-use Rattle.ncl_stage.proofs.Counted.{counted, count-computes}
-use Rattle.ncl_verdict.specs.declared.verdict.Verdict.TheVariants.{Limit}
-use Rattle.ncl_verdict.specs.Judgement.{Stop, judged, judgement}
+use Rattle.ncl_verdict.proofs.Terms.{Limit, List, None, Some, StageData, Stop, Variant, ap, count-computes, counted, if◌then◌else◌, judged, judgement, nat_lt, ℕ, ◌≡◌}
 
 -- the stop at a limit, by any way to count
 abbrev pub stop_by : (StageData → Variant → ℕ) → ℕ → Stop

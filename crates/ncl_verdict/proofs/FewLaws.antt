@@ -1,30 +1,5 @@
 -- How many nodes a variant has at most, by the bits on which the nets of the stage depend and by those that it loses.
-use Rattle.std.proofs.Common.{◌≡◌, ℕ, zero, suc, ◌+◌, ◌-◌, ◌*◌, ◌<◌, ◌≤◌, Bool, true, false, cond, List, [], ◌∷◌, ◌++◌, length, map, get_or, ◌⊎◌, inl, inr, refl, sym, ap, ◌∙◌, subst, arith}
-use Rattle.std.specs.Prelude.{filter, sum_by}
-use Rattle.std.specs.List.{list_all}
-use Rattle.std.proofs.lemmas.Bool.{both_ways, cases_Bool}
-use Rattle.std.proofs.lemmas.List.Sums.{sum_by-append}
-use Rattle.ncl_shape.specs.declared.rails.Rails.{Rails}
-use Rattle.ncl_shape.specs.Stage.{StageData, IsStage, nets_of}
-use Rattle.ncl_base.proofs.Growing.{sum_by-map}
-use Rattle.ncl_base.proofs.Members.{Member, member_of_filter, member_of_map, Member-append_cases, Member-append_left, Member-append_right, Member-filter, Member-get_or, Member-map}
-use Rattle.ncl_space.specs.Beads.{bead_count, beads_of}
-use Rattle.ncl_space.specs.Table.{table_of}
-use Rattle.ncl_space.proofs.TableLaws.{beads_of-constant, table_of-same}
-use Rattle.ncl_stage.specs.BitOrder.{bit_order, placed, words_by}
-use Rattle.ncl_stage.specs.Changes.{net_at}
-use Rattle.ncl_faults.specs.declared.variant.Variant.{Variant}
-use Rattle.ncl_faults.specs.declared.variant.Variant.TheVariants.{Base}
-use Rattle.ncl_faults.specs.Faults.{IsWordOf, has_data}
-use Rattle.ncl_stage.specs.Observed.{HasValidRails}
-use Rattle.ncl_stage.specs.Supports.{AreSupports}
-use Rattle.ncl_stage.specs.Tables.{WordFunction, count, data_fronts, data_functions, fronts, functions_of, net_functions, question_functions, tables_of}
-use Rattle.ncl_faults.specs.Values.{val}
-use Rattle.ncl_stage.specs.Wiring.{WiringData, IsWiring, rail_places}
-use Rattle.ncl_stage.proofs.OrderedTables.{ordered-table}
-use Rattle.ncl_stage.proofs.OutputLaws.{fronts-map, values_at}
-use Rattle.ncl_stage.proofs.Unvisited.{place-of}
-use Rattle.ncl_verdict.specs.Masks.{AreMasks, AreReaches, IsPart, both, is_part, lost_data, lost_mask, mask_at, union, weight_lost, weight_of}
+use Rattle.ncl_verdict.proofs.Terms.{AreMasks, AreReaches, AreSupports, Base, Bool, HasValidRails, IsPart, IsStage, IsWiring, IsWordOf, List, Member, Member-append_cases, Member-append_left, Member-append_right, Member-filter, Member-get_or, Member-map, Rails, StageData, Variant, WiringData, WordFunction, [], ap, arith, bead_count, beads_of, beads_of-constant, bit_order, both, both_ways, cases_Bool, cond, count, data_fronts, data_functions, false, filter, fronts, fronts-map, functions_of, get_or, has_data, inl, inr, is_part, length, list_all, lost_data, lost_mask, map, mask_at, member_of_filter, member_of_map, net_at, net_functions, nets_of, ordered-table, place-of, placed, question_functions, rail_places, refl, subst, suc, sum_by, sum_by-append, sum_by-map, sym, table_of, table_of-same, tables_of, true, union, val, values_at, weight_lost, weight_of, words_by, zero, ℕ, ◌*◌, ◌++◌, ◌+◌, ◌-◌, ◌<◌, ◌∙◌, ◌∷◌, ◌≡◌, ◌≤◌, ◌⊎◌}
 use Rattle.ncl_verdict.proofs.Losing.{Loses, all-look, data-looks, data_mask, loses, net-looks, word-of}
 use Rattle.ncl_verdict.proofs.MaskLaws.{part-test, union-has}
 use Rattle.ncl_verdict.proofs.ReachLaws.{all-filtered, fronts-filtered, front-members}

@@ -1,25 +1,6 @@
 -- The cells of a stage in the order of the file: each once, whatever the order in which the stage lists them.
-use Rattle.std.proofs.Common.{◌≡◌, ◌≢◌, ℕ, zero, suc, ◌+◌, ◌<◌, Bool, true, false, List, [], ◌∷◌, ◌++◌, length, map, get_or, Option, Some, ◌⊎◌, inl, inr, refl, sym, ap, ◌∙◌, subst, arith}
-use Rattle.std.specs.Prelude.{All, nat_eq, slice_get, nat_lt, if◌then◌else◌}
-use Rattle.std.specs.List.{range_with_len, IsDistinct}
-use Rattle.std.specs.List.Sorted.{IsPermutation, IsNonDecreasingBy}
-use Rattle.std.proofs.lemmas.Bool.{ltb-true, ltb-false, cases_eq, cases_lt, eq-eqb, ne_eqb, both_ways}
-use Rattle.std.proofs.lemmas.List.{get_or-map, length-map}
-use Rattle.std.proofs.lemmas.Map.Keys.{IsDistinct-from_apart, IsDistinct-IsPermutation, apart_from_distinct}
-use Rattle.std.proofs.lemmas.List.FromFn.{length-range_with_len, get_or-range_with_len}
-use Rattle.std.proofs.lemmas.List.Kept.{AllPairs-cons}
-use Rattle.std.proofs.lemmas.List.Sorted.{All-permutation, Contains-permutation, IsPermutation-sym}
-use Rattle.std.proofs.lemmas.Option.{slice_get-get_or, slice_get_within}
-use Rattle.ncl_gates.specs.declared.kind.Kind.TheVariants.{Th12}
-use Rattle.ncl_shape.specs.declared.stage.StageCell.{StageCell}
-use Rattle.ncl_shape.specs.Stage.{StageData, IsStage}
-use Rattle.ncl_base.proofs.Members.{Member, here, there, member_cases, Member-append_cases, Member-map, member_of_map, All-from_members, Contains-from_Member, Member-from_Contains, Contains-from_slice_get, slice_get-from_Contains, slice_get-some}
-use Rattle.ncl_base.proofs.Lists.{HasKeys, AreIncreasing, Differ, pairs-head, pairs-tail, differ_of_map, same_increasing}
-use Rattle.ncl_base.proofs.Ranges.{below_of_range}
-use Rattle.ncl_faults.proofs.Apart.{same_from_value}
-use Rattle.ncl_faults.specs.declared.variant.Variant.TheVariants.{Bit, Cell}
-use Rattle.ncl_verdict.specs.InSpace.{IsAfterBase}
-use Rattle.ncl_verdict.specs.Judgement.{after_base, below, cell_number, file_number, file_order, inserted, ordered_by}
+use Rattle.ncl_verdict.proofs.Terms.{All, All-from_members, All-permutation, AllPairs-cons, AreIncreasing, Bit, Bool, Cell, Contains-from_Member, Contains-from_slice_get, Contains-permutation, Differ, HasKeys, IsAfterBase, IsDistinct, IsDistinct-IsPermutation, IsDistinct-from_apart, IsNonDecreasingBy, IsPermutation, IsPermutation-sym, IsStage, List, Member, Member-append_cases, Member-from_Contains, Member-map, Option, Some, StageCell, StageData, Th12, [], after_base, ap, apart_from_distinct, arith, below_of_range, both_ways, cases_eq, cases_lt, cell_number, differ_of_map, eq-eqb, false, file_number, file_order, get_or, get_or-map, get_or-range_with_len, here, if◌then◌else◌, inl, inr, inserted, length, length-map, length-range_with_len, ltb-false, ltb-true, map, member_cases, member_of_map, nat_eq, nat_lt, ne_eqb, ordered_by, pairs-head, pairs-tail, range_with_len, refl, same_from_value, same_increasing, slice_get, slice_get-from_Contains, slice_get-get_or, slice_get-some, slice_get_within, subst, suc, sym, there, true, zero, ℕ, ◌++◌, ◌+◌, ◌<◌, ◌∙◌, ◌∷◌, ◌≡◌, ◌≢◌, ◌⊎◌}
+use Rattle.ncl_verdict.specs.Judgement.{below}
 use Rattle.ncl_verdict.proofs.Places.{Member-below, Member-ordered_by}
 
 -- ordering adds no place

@@ -1,12 +1,6 @@
 -- The first that is there, and what is found where nothing is.
-use Rattle.std.proofs.Common.{◌≡◌, Bool, false, cond, List, [], ◌∷◌, map, Option, Some, None, inl, inr, refl, sym, ap, ◌∙◌, subst}
-use Rattle.std.specs.Prelude.{unwrap_or}
-use Rattle.std.specs.List.{find}
-use Rattle.std.proofs.lemmas.Bool.{cases_Bool}
-use Rattle.ncl_base.proofs.Members.{Member, here, there, Member-map, member_cases}
-use Rattle.ncl_verdict.specs.declared.verdict.Verdict.{Verdict}
+use Rattle.ncl_verdict.proofs.Terms.{Bool, List, Member, Member-map, None, Option, Some, Verdict, [], ap, cases_Bool, cond, false, find, first_of, here, inl, inr, map, member_cases, refl, subst, sym, there, unwrap_or, ◌∙◌, ◌∷◌, ◌≡◌}
 use Rattle.ncl_verdict.specs.declared.verdict.Verdict.TheVariants as verdict
-use Rattle.ncl_verdict.specs.Judgement.{first_of}
 
 -- where nothing is first, no answer is there
 pub first_of-none : (answers : List (Option Verdict)) → first_of answers ≡ None → (answer : Option Verdict) → Member answer answers → answer ≡ None

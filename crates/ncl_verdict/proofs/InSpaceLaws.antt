@@ -1,35 +1,9 @@
 -- What a space answers, as the judgement counts it.
-use Rattle.std.proofs.Common.{◌≡◌, ℕ, zero, suc, ◌+◌, ◌<◌, Bool, true, false, List, [], ◌∷◌, ◌++◌, length, map, get_or, Option, Some, None, inl, inr, refl, sym, ap, ◌∙◌, subst, arith, below_more}
-use Rattle.std.specs.Prelude.{nat_le, nat_lt, option_and_then, if◌then◌else◌}
-use Rattle.std.specs.List.{flat_map}
-use Rattle.std.specs.Option.{option_map}
+use Rattle.ncl_verdict.proofs.Terms.{Base, Bool, BothRails, Contains-from_Member, Contains-from_slice_get, HasMembers, IsReady, List, Member, Member-append_cases, Member-append_left, Member-append_right, Member-from_Contains, NoRail, None, Option, RailFault, Restores, Some, SpaceData, StageData, StageFault, Stop, ValuesData, Variant, Verdict, [], after_base, ap, append_assoc, arith, at_variant, bead_count, below, below_more, below_of_range, bit_order, count, count_of_both, data_fronts, data_functions, distinct_beads, distinct_beads-append, distinct_beads-same, false, faults_of, first_of-one, first_rail_fault_by, fits, flat_map, found, found_fault_by, function_tables_by, get_or, have-kept, here, if◌then◌else◌, illegal_functions, inl, inr, is_within, least_word_by, length, map, nat_le, nat_lt, nat_tests, net_tables, net_tables_by, of_stage, option_and_then, option_map, output_of, rail_fault, rail_verdict, refl, shared-tables, slice_get-from_Contains, stopped_within, subst, suc, sym, tables_by, tables_of, tables_of-parts, there, too_much_by_front, true, values_at, verdict_of, with_tables, zero, ℕ, ◌++◌, ◌+◌, ◌<◌, ◌∙◌, ◌∷◌, ◌≡◌}
 use Rattle.std.specs.FinSet as set
-use Rattle.std.proofs.lemmas.Bool.Decides.{nat_tests}
-use Rattle.std.proofs.lemmas.List.{append_assoc}
-use Rattle.ncl_shape.specs.Stage.{StageData}
-use Rattle.ncl_base.proofs.Members.{Member, here, there, Member-append_cases, Member-append_left, Member-append_right, Member-from_Contains, Contains-from_Member, Contains-from_slice_get, slice_get-from_Contains}
-use Rattle.ncl_base.proofs.Ranges.{below_of_range}
-use Rattle.ncl_space.specs.Beads.{distinct_beads, bead_count}
-use Rattle.ncl_space.specs.Space.{SpaceData, Restores, fits, with_tables, is_within}
-use Rattle.ncl_space.proofs.BeadLaws.{HasMembers, distinct_beads-append, distinct_beads-same}
-use Rattle.ncl_space.proofs.SpaceLaws.{count_of_both, too_much_by_front}
-use Rattle.ncl_space.proofs.MakingLaws.{have-kept}
-use Rattle.ncl_faults.specs.declared.variant.Variant.{Variant}
-use Rattle.ncl_faults.specs.declared.variant.Variant.TheVariants.{Base}
-use Rattle.ncl_faults.specs.Faults.{StageFault, BothRails, NoRail}
-use Rattle.ncl_stage.specs.BitOrder.{bit_order}
-use Rattle.ncl_stage.specs.LeastWords.{below, faults_of, first_of, least_word, least_word_by}
-use Rattle.ncl_stage.specs.StageTables.{ValuesData, net_tables, net_tables_by}
-use Rattle.ncl_stage.specs.Tables.{count, data_functions, data_fronts, function_tables_by, illegal_functions, tables_by, tables_of}
-use Rattle.ncl_stage.proofs.OutputLaws.{values_at, shared-tables}
-use Rattle.ncl_stage.proofs.LeastLaws.{tables_of-parts, first_of-one}
-use Rattle.ncl_complete.specs.declared.rail_fault.RailFault.{RailFault}
+use Rattle.ncl_stage.specs.LeastWords.{first_of, least_word}
 use Rattle.ncl_complete.specs.declared.rail_fault.RailFault.TheVariants as rail
-use Rattle.ncl_complete.specs.RailFaults.{rail_fault, found_fault_by, first_rail_fault_by}
-use Rattle.ncl_verdict.specs.declared.verdict.Verdict.{Verdict}
 use Rattle.ncl_verdict.specs.declared.verdict.Verdict.TheVariants as verdict
-use Rattle.ncl_verdict.specs.Judgement.{Stop, after_base, at_variant, found, of_stage, verdict_of}
-use Rattle.ncl_verdict.specs.InSpace.{IsReady, stopped_within, rail_verdict, output_of}
 
 -- ---- what stops
 over : (limit n : ℕ) → nat_le n limit ≡ false → nat_lt limit n ≡ true

@@ -1,3 +1,4 @@
+mod Terms
 pub mod Computed
 pub mod Firsts
 pub mod Places

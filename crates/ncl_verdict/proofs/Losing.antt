@@ -1,27 +1,5 @@
 -- What a variant loses: where it keeps nets low, what depends on the bits that they reach.
-use Rattle.std.proofs.Common.{◌≡◌, ℕ, ◌+◌, ◌-◌, ◌*◌, ◌%◌, ◌<◌, ◌≤◌, Bool, true, false, ◌&&◌, ◌||◌, cond, List, [], ◌∷◌, length, Option, Some, None, ◌⊎◌, inl, inr, refl, sym, ap, ◌∙◌, subst, arith}
-use Rattle.std.specs.Prelude.{bit_or, nat_eq, slice_get}
-use Rattle.std.specs.List.{list_all}
-use Rattle.std.proofs.lemmas.Bool.{eqb-true, le-ltb, lt-ltb, or_cases}
-use Rattle.std.proofs.lemmas.Option.{slice_get_within, get_or_from_slice_get}
-use Rattle.ncl_shape.specs.declared.rails.Rails.{Rails}
-use Rattle.ncl_shape.specs.declared.stage.StageCell.{StageCell}
-use Rattle.ncl_shape.specs.Stage.{StageData, IsStage, nets_of, out_of, rail_nets}
-use Rattle.ncl_base.proofs.Members.{Member, here, there, member_cases, member_of_map, Member-append_right, Member-from_Contains, Member-map, Contains-from_slice_get}
-use Rattle.ncl_stage.specs.BitOrder.{placed}
-use Rattle.ncl_faults.specs.declared.variant.Variant.{Variant}
-use Rattle.ncl_faults.specs.declared.variant.Variant.TheVariants.{Base, Bit, Cell}
-use Rattle.ncl_faults.specs.Faults.{IsWordOf, all_data, has_data, is_illegal}
-use Rattle.ncl_stage.specs.Observed.{HasValidRails}
-use Rattle.ncl_stage.specs.Supports.{AreSupports}
-use Rattle.ncl_stage.specs.Tables.{WordFunction, orphan_function, question_functions}
-use Rattle.ncl_faults.specs.Values.{both_rails, kept_low, output_net, val}
-use Rattle.ncl_stage.specs.Wiring.{WiringData, IsWiring, place_in, rail_places}
-use Rattle.ncl_stage.proofs.ChangedLaws.{nets-length}
-use Rattle.ncl_stage.proofs.OrderedTables.{placed-length}
-use Rattle.ncl_stage.proofs.OutputLaws.{values_at}
-use Rattle.ncl_stage.proofs.SupportLaws.{told}
-use Rattle.ncl_verdict.specs.Masks.{AreReaches, IsPart, both, lost_mask, mask_at}
+use Rattle.ncl_verdict.proofs.Terms.{AreReaches, AreSupports, Base, Bit, Bool, Cell, Contains-from_slice_get, HasValidRails, IsPart, IsStage, IsWiring, IsWordOf, List, Member, Member-append_right, Member-from_Contains, Member-map, None, Option, Rails, Some, StageCell, StageData, Variant, WiringData, WordFunction, [], all_data, ap, arith, bit_or, both, both_rails, cond, eqb-true, false, get_or_from_slice_get, has_data, here, inl, inr, is_illegal, kept_low, le-ltb, length, list_all, lost_mask, lt-ltb, mask_at, member_cases, member_of_map, nat_eq, nets-length, nets_of, or_cases, orphan_function, out_of, output_net, place_in, placed, placed-length, question_functions, rail_nets, rail_places, refl, slice_get, slice_get_within, subst, sym, there, told, true, val, values_at, ℕ, ◌%◌, ◌&&◌, ◌*◌, ◌+◌, ◌-◌, ◌<◌, ◌||◌, ◌∙◌, ◌∷◌, ◌≡◌, ◌≤◌, ◌⊎◌}
 use Rattle.ncl_verdict.proofs.MaskLaws.{agree-on, marked-part, part-along, part-left, part-right}
 use Rattle.ncl_verdict.proofs.ReachLaws.{base-data, data-left, known-rails}
 use Rattle.ncl_verdict.proofs.Supporting.{cell-place-at, data-reached, marks_by, rail-places-at, reads-reach}

@@ -1,11 +1,5 @@
 -- The masks of the DATA of one output more, where they are parts of what is lost and where they aren't.
-use Rattle.std.proofs.Common.{◌≡◌, ℕ, ◌+◌, ◌-◌, ◌<◌, ◌^◌, true, false, cond, List, [], ◌∷◌, ◌++◌, length, map, min, take, get_or, refl, sym, ap, ◌∙◌, subst, append-nil, arith}
-use Rattle.std.specs.Prelude.{bit_or, filter, sum_by}
-use Rattle.std.proofs.lemmas.List.{map-append, take_more}
-use Rattle.std.proofs.lemmas.List.Elements.{filter-append}
-use Rattle.std.proofs.lemmas.List.Sums.{fold_push, sum_by_push}
-use Rattle.ncl_stage.specs.Tables.{fronts}
-use Rattle.ncl_verdict.specs.Masks.{Covers, both, is_part, lost_data, union, weight_lost, weight_of}
+use Rattle.ncl_verdict.proofs.Terms.{Covers, List, [], ap, append-nil, arith, bit_or, both, cond, false, filter, filter-append, fold_push, fronts, get_or, is_part, length, lost_data, map, map-append, min, refl, subst, sum_by, sum_by_push, sym, take, take_more, true, union, weight_lost, weight_of, ℕ, ◌++◌, ◌+◌, ◌-◌, ◌<◌, ◌^◌, ◌∙◌, ◌∷◌, ◌≡◌}
 use Rattle.ncl_verdict.proofs.Adding.{covers-more}
 
 fronts-push : (xs : List ℕ) (x : ℕ) → fronts (xs ++ x ∷ []) ≡ fronts xs ++ (xs ++ x ∷ []) ∷ []

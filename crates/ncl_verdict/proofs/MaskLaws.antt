@@ -1,23 +1,7 @@
 -- Masks of bits, and words that agree at the bits of a mask.
-use Rattle.std.proofs.Common.{◌≡◌, ℕ, zero, suc, ◌+◌, ◌/◌, ◌%◌, ◌^◌, ◌<◌, ◌≤◌, Bool, true, false, ◌||◌, List, [], ◌∷◌, length, get_or, ◌⊎◌, inl, inr, refl, sym, ap, ◌∙◌, arith}
-use Rattle.std.specs.Prelude.{bit_and, bit_or, count_ones, min, nat_eq, nat_le}
-use Rattle.std.specs.List.{fold}
-use Rattle.std.specs.Int.{bit_at}
-use Rattle.std.specs.Int.Count.{ones_step}
-use Rattle.std.proofs.lemmas.Bool.{both_ways, cases_eq, cases_lt, eq-eqb, eqb-true, or_cases, or_left, or_right}
-use Rattle.std.proofs.lemmas.Bool.Decides.{nat_tests}
-use Rattle.std.proofs.lemmas.List.{get_or_past}
-use Rattle.std.proofs.lemmas.Nat.{pow_pos}
-use Rattle.std.proofs.lemmas.Nat.Bits.{bit_at-lt, bit_at-suc, bit_at_and, bit_at_lowest, same_from_bits}
-use Rattle.ncl_gates.specs.Bits.{is_set}
-use Rattle.ncl_gates.proofs.BitLaws.{is_set-or}
-use Rattle.ncl_base.proofs.Members.{Member, here, there}
-use Rattle.ncl_space.specs.Bounds.{Agree, weight, width_of}
-use Rattle.ncl_space.proofs.TableLaws.{pow_suc}
-use Rattle.ncl_stage.specs.BitOrder.{place_in, placed}
-use Rattle.ncl_stage.specs.Supports.{AgreeOn}
-use Rattle.ncl_stage.proofs.OrderLaws.{length-placed, placed-at}
-use Rattle.ncl_verdict.specs.Masks.{IsPart, is_part, union}
+use Rattle.ncl_verdict.proofs.Terms.{Agree, AgreeOn, Bool, IsPart, List, Member, [], ap, arith, bit_and, bit_at, bit_at-lt, bit_at-suc, bit_at_and, bit_at_lowest, bit_or, both_ways, cases_eq, cases_lt, count_ones, eq-eqb, eqb-true, false, fold, get_or, get_or_past, here, inl, inr, is_part, is_set, is_set-or, length, length-placed, nat_eq, nat_le, nat_tests, ones_step, or_cases, or_left, or_right, placed, placed-at, pow_pos, pow_suc, refl, same_from_bits, suc, sym, there, true, union, weight, width_of, zero, ℕ, ◌%◌, ◌+◌, ◌/◌, ◌<◌, ◌^◌, ◌||◌, ◌∙◌, ◌∷◌, ◌≡◌, ◌≤◌, ◌⊎◌}
+use Rattle.std.specs.Prelude.{min}
+use Rattle.ncl_stage.specs.BitOrder.{place_in}
 
 -- ---- parts
 pub part-along : (a b c : ℕ) → IsPart a b → IsPart b c → IsPart a c

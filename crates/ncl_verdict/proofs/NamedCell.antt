@@ -1,21 +1,8 @@
 -- A verdict on a pipeline names no cell but those of its netlist.
-use Rattle.std.proofs.Common.{◌≡◌, ℕ, zero, suc, ◌+◌, ◌<◌, Bool, true, false, List, [], ◌∷◌, length, map, Option, Some, None, IfSome, unwrap_or, if◌then◌else◌, refl, arith}
-use Rattle.std.specs.Prelude.{slice_get, option_and_then, nat_lt}
-use Rattle.std.specs.List.{AllByRecursion}
-use Rattle.std.proofs.lemmas.Option.{slice_get_within}
-use Rattle.ncl_netlist.specs.Netlist.{NetlistData}
-use Rattle.ncl_shape.specs.declared.bank.Bank.{Bank}
-use Rattle.ncl_shape.specs.declared.stage.StageCell.{StageCell}
-use Rattle.ncl_shape.specs.Stage.{StageData}
-use Rattle.ncl_shape.specs.Pipeline.{PipelineData}
-use Rattle.ncl_shape.specs.Shape.{Shape}
-use Rattle.ncl_shape.specs.Chain.{SomeRegister}
-use Rattle.ncl_faults.specs.declared.variant.Variant.{Variant}
-use Rattle.ncl_stage.specs.Tables.{count}
-use Rattle.ncl_faults.specs.Faults.{StageFault, BothRails, NoRail, Incomplete, Orphan}
-use Rattle.ncl_verdict.specs.declared.verdict.Verdict.{Verdict}
+use Rattle.ncl_verdict.proofs.Terms.{AllByRecursion, Bank, Bool, BothRails, IfSome, Incomplete, List, NetlistData, NoRail, None, Option, Orphan, PipelineData, Shape, Some, SomeRegister, StageCell, StageData, StageFault, Variant, Verdict, [], arith, at_variant, cell_number, count, false, first_of, found, judgement, least_word, length, map, nat_lt, of_stage, option_and_then, refl, slice_get, slice_get_within, stopped_at, suc, true, variants, verdict_of, zero, ℕ, ◌+◌, ◌<◌, ◌∷◌, ◌≡◌}
+use Rattle.std.proofs.Common.{unwrap_or, if◌then◌else◌}
 use Rattle.ncl_verdict.specs.declared.verdict.Verdict.TheVariants as verdict
-use Rattle.ncl_verdict.specs.Judgement.{stopped_at, cell_number, verdict_of, least_word, found, first_of, faults_of, at_variant, of_stage, variants, judgement}
+use Rattle.ncl_verdict.specs.Judgement.{faults_of}
 
 -- a cell that the verdict names is one of the first so many
 abbrev pub NamesBelow : ℕ → Verdict → Type 0

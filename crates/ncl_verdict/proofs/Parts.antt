@@ -1,15 +1,6 @@
 -- What several threads heard of variants.
-use Rattle.std.proofs.Common.{◌≡◌, ℕ, suc, zero, ◌<◌, ◌⊎◌, inl, inr, Bool, true, false, List, length, replicate, get_or, set, slice_get, Option, Some, None, sym, ap, subst, ◌∙◌}
-use Rattle.std.specs.Prelude.{option_and_then}
-use Rattle.std.proofs.lemmas.Bool.{cases_eq}
-use Rattle.std.proofs.lemmas.List.{get_or-set_other}
-use Rattle.std.proofs.lemmas.Option.{option_and_then_some, slice_get-get_or, slice_get_within}
-use Rattle.ncl_shape.specs.Stage.{StageData}
-use Rattle.ncl_faults.specs.declared.variant.Variant.{Variant}
-use Rattle.ncl_verdict.specs.declared.verdict.Verdict.{Verdict}
-use Rattle.ncl_verdict.specs.InSpace.{stopped_within}
-use Rattle.ncl_verdict.specs.Judgement.{at_variant}
-use Rattle.ncl_verdict.specs.Sharing.{AreSilent, SharedData, at_place, said_at}
+use Rattle.ncl_verdict.proofs.Terms.{AreSilent, Bool, List, None, Option, SharedData, Some, StageData, Variant, Verdict, ap, at_place, at_variant, cases_eq, false, get_or, get_or-set_other, inl, inr, length, option_and_then, option_and_then_some, said_at, set, slice_get-get_or, slice_get_within, stopped_within, subst, sym, true, ℕ, ◌<◌, ◌∙◌, ◌≡◌, ◌⊎◌}
+use Rattle.std.proofs.Common.{slice_get}
 
 -- what is marked where one is set was marked, or is that one
 pub marked-set : (marks : List Bool) (at place : ℕ) → get_or (set marks at true) place false ≡ true → (get_or marks place false ≡ true) ⊎ (place ≡ at)
@@ -18,12 +9,6 @@ marked-set marks at place is =
       | inl same ↦ inr same
       | inr differs ↦ inl (sym (get_or-set_other marks at place true false differs) ∙ is)
     ]
-
--- nothing is marked at first
-pub none-marked : (n place : ℕ) → get_or (replicate n false) place false ≡ true → ⊥
-none-marked zero place is = absurd cc
-none-marked (suc n) zero is = absurd cc
-none-marked (suc n) (suc place) is = none-marked n place is
 
 module _ (shared : SharedData) where
   -- what is said at a place is what is said at the variant there

@@ -1,9 +1,6 @@
 -- Every place, every cell's place and every word is asked.
-use Rattle.std.proofs.Common.{◌≡◌, ℕ, zero, suc, ◌<◌, Bool, true, false, List, [], ◌∷◌, length, None, ◌⊎◌, inl, inr, refl, sym, subst, arith}
-use Rattle.std.specs.Prelude.{nat_lt, if◌then◌else◌, slice_get}
-use Rattle.ncl_base.proofs.Members.{Member, here, there, member_cases}
-use Rattle.ncl_base.proofs.Ranges.{Member-range}
-use Rattle.ncl_verdict.specs.Judgement.{below, inserted, ordered_by}
+use Rattle.ncl_verdict.proofs.Terms.{Bool, List, Member, Member-range, None, [], arith, false, here, if◌then◌else◌, inl, inr, inserted, length, member_cases, nat_lt, ordered_by, refl, slice_get, subst, suc, sym, there, true, zero, ℕ, ◌<◌, ◌∷◌, ◌≡◌, ◌⊎◌}
+use Rattle.ncl_verdict.specs.Judgement.{below}
 
 -- each number below n
 pub Member-below : (n k : ℕ) → k < n → Member k (below n)

@@ -1,25 +1,7 @@
 -- What a variant leaves as it is.
-use Rattle.std.proofs.Common.{◌≡◌, ℕ, Bool, true, false, not, ◌&&◌, ◌||◌, List, [], ◌∷◌, ◌++◌, map, get_or, ◌⊎◌, inl, inr, refl, sym, ap, ◌∙◌, subst, append_assoc, append-nil}
-use Rattle.std.specs.Prelude.{Contains, cond, filter}
-use Rattle.std.specs.List.{list_all}
-use Rattle.std.proofs.lemmas.Bool.{cases_Bool}
-use Rattle.std.proofs.lemmas.List.Elements.{All-contains}
-use Rattle.ncl_gates.specs.Gate.{set_of}
-use Rattle.ncl_netlist.specs.declared.ids.NetId.{NetId}
-use Rattle.ncl_shape.specs.declared.rails.Rails.{Rails}
-use Rattle.ncl_shape.specs.declared.stage.StageCell.{StageCell}
-use Rattle.ncl_shape.specs.Nets.{among}
-use Rattle.ncl_shape.specs.Closure.{pin_values}
-use Rattle.ncl_shape.specs.Stage.{StageData, IsStage, named_rails, nets_of, out_of, rail_nets}
-use Rattle.ncl_base.proofs.Members.{Member, here, there, member_cases, Contains-from_Member, Member-from_Contains, Member-append_left, Member-append_right, Member-append_cases, Member-map, member_of_map, slice_get-from_Contains}
-use Rattle.ncl_faults.specs.declared.variant.Variant.{Variant}
-use Rattle.ncl_faults.specs.declared.variant.Variant.TheVariants.{Base}
-use Rattle.ncl_faults.specs.Values.{kept_low, val}
-use Rattle.ncl_faults.specs.Faults.{IsWordOf, has_data, holds_at, is_illegal}
-use Rattle.ncl_stage.specs.Observed.{HasValidRails}
-use Rattle.ncl_stage.specs.Tables.{fronts}
-use Rattle.ncl_faults.proofs.ValueLaws.{val-output, val-rail}
-use Rattle.ncl_faults.proofs.WiringLaws.{at_rail}
+use Rattle.ncl_verdict.proofs.Terms.{All-contains, Base, Bool, Contains, Contains-from_Member, HasValidRails, IsStage, IsWordOf, List, Member, Member-append_cases, Member-append_left, Member-append_right, Member-from_Contains, Member-map, NetId, Rails, StageCell, StageData, Variant, [], among, ap, append-nil, at_rail, cases_Bool, false, filter, fronts, get_or, has_data, here, holds_at, inl, inr, is_illegal, kept_low, list_all, map, member_cases, member_of_map, named_rails, nets_of, not, out_of, pin_values, rail_nets, refl, set_of, slice_get-from_Contains, subst, sym, there, true, val, val-output, val-rail, ℕ, ◌&&◌, ◌++◌, ◌||◌, ◌∙◌, ◌∷◌, ◌≡◌, ◌⊎◌}
+use Rattle.std.proofs.Common.{append_assoc}
+use Rattle.std.specs.Prelude.{cond}
 
 -- the rails of an output are nets
 pub known-rails : (s : StageData) → IsStage s → (r : Rails) → Member r s.outputs → Member r.zero.0 (nets_of s.inputs s.cells) × Member r.one.0 (nets_of s.inputs s.cells)

@@ -1,23 +1,7 @@
 -- An accepted pipeline is sound: no word of the inputs of any of its stages shows any fault.
-use Rattle.std.proofs.Common.{◌≡◌, ℕ, ◌<◌, Bool, true, false, not, ◌&&◌, List, [], ◌∷◌, length, map, Option, Some, None, inl, inr, refl, ap, subst}
-use Rattle.std.specs.Prelude.{nat_lt, All, if◌then◌else◌, option_and_then}
-use Rattle.std.specs.List.{flat_map}
-use Rattle.ncl_shape.specs.declared.rails.Rails.{Rails}
-use Rattle.ncl_shape.specs.declared.stage.StageCell.{StageCell}
-use Rattle.ncl_shape.specs.Stage.{StageData}
-use Rattle.ncl_base.proofs.Members.{Member, here, there, All-from_members, member_cases, Member-map, Member-append_left, Member-append_right}
-use Rattle.ncl_stage.specs.BitOrder.{bit_order, words_by}
-use Rattle.ncl_stage.proofs.OrderLaws.{Member-words_by}
-use Rattle.ncl_stage.proofs.OrderedTables.{order-is}
-use Rattle.ncl_faults.specs.declared.variant.Variant.{Variant}
-use Rattle.ncl_faults.specs.declared.variant.Variant.TheVariants.{Base, Bit, Cell}
-use Rattle.ncl_faults.specs.Values.{val}
-use Rattle.ncl_faults.specs.Faults.{StageFault, BothRails, NoRail, Incomplete, Orphan, shows, holds_at, is_illegal, has_data, all_data, IsSound, IsWordOf}
-use Rattle.ncl_stage.specs.Observed.{HasValidRails}
-use Rattle.ncl_stage.specs.Tables.{count}
-use Rattle.ncl_verdict.specs.declared.verdict.Verdict.{Verdict}
+use Rattle.ncl_verdict.proofs.Terms.{All, All-from_members, Base, Bit, Bool, BothRails, Cell, HasValidRails, Incomplete, IsSound, IsWordOf, List, Member, Member-append_left, Member-append_right, Member-map, Member-words_by, NoRail, None, Option, Orphan, Rails, Some, StageCell, StageData, StageFault, Stop, Variant, Verdict, [], all_data, ap, at_variant, bit_order, count, false, file_number, file_order, first_of, flat_map, found, has_data, here, holds_at, if◌then◌else◌, inl, inr, is_illegal, judgement, least_word, length, map, member_cases, nat_lt, not, of_stage, option_and_then, order-is, refl, shows, stopped_at, subst, there, true, val, variants, verdict_of, words_by, ℕ, ◌&&◌, ◌<◌, ◌∷◌, ◌≡◌}
 use Rattle.ncl_verdict.specs.declared.verdict.Verdict.TheVariants as verdict
-use Rattle.ncl_verdict.specs.Judgement.{Stop, stopped_at, verdict_of, below, file_number, file_order, variants, faults_of, least_word, found, first_of, at_variant, of_stage, judgement}
+use Rattle.ncl_verdict.specs.Judgement.{below, faults_of}
 use Rattle.ncl_verdict.proofs.Firsts.{first_of-none, none_of, find-none, Refuses, map-refuses, unwrap-refuses}
 use Rattle.ncl_verdict.proofs.Places.{Member-below, Member-ordered_by, slice_get-cases}
 

@@ -1,13 +1,6 @@
 -- The judgement of stages in two parts, one after the other.
-use Rattle.std.proofs.Common.{◌≡◌, ◌≢◌, ℕ, ◌+◌, ◌<◌, ◌≤◌, List, [], ◌∷◌, ◌++◌, length, map, take, drop, Option, Some, None, Result, Ok, Err, IfOk, get_or, refl, sym, ap, ◌∙◌}
-use Rattle.std.specs.Prelude.{unwrap_or}
-use Rattle.std.proofs.lemmas.List.{take_more, take_all, take-append-drop}
-use Rattle.std.specs.Option.{option_or}
-use Rattle.ncl_base.specs.declared.memory.Memory.{Memory}
-use Rattle.ncl_shape.specs.Stage.{StageData}
-use Rattle.ncl_verdict.specs.declared.verdict.Verdict.{Verdict}
+use Rattle.ncl_verdict.proofs.Terms.{Answers, Err, IfOk, List, Memory, None, Ok, Option, Result, Some, StageData, Verdict, [], ap, drop, first_of, get_or, judgement, length, map, of_stage, option_or, refl, stopped_at, sym, take, take-append-drop, take_all, take_more, unwrap_or, ℕ, ◌++◌, ◌+◌, ◌<◌, ◌∙◌, ◌∷◌, ◌≡◌, ◌≢◌, ◌≤◌}
 use Rattle.ncl_verdict.specs.declared.verdict.Verdict.TheVariants as verdict
-use Rattle.ncl_verdict.specs.Judgement.{first_of, of_stage, stopped_at, judgement, Answers}
 use Rattle.ncl_verdict.proofs.Firsts.{map-refuses, unwrap-refuses}
 use Rattle.ncl_verdict.proofs.Sound.{of_stage-refuses}
 

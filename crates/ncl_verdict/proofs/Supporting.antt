@@ -1,24 +1,5 @@
 -- The masks of a stage's nets by their places, as marks of its nets.
-use Rattle.std.proofs.Common.{◌≡◌, ℕ, ◌+◌, ◌-◌, ◌*◌, ◌/◌, ◌%◌, ◌<◌, ◌≤◌, true, List, [], ◌∷◌, ◌++◌, length, map, get_or, Some, inl, inr, refl, sym, ap, ◌∙◌, subst, arith}
-use Rattle.std.specs.Prelude.{Contains, nat_eq, slice_get}
-use Rattle.std.proofs.lemmas.Bool.{cases_lt}
-use Rattle.std.proofs.lemmas.List.{get_or_append_left, get_or_push, length-append, length-map}
-use Rattle.std.proofs.lemmas.List.Elements.{All-contains}
-use Rattle.std.proofs.lemmas.Option.{slice_get_within, get_or_from_slice_get}
-use Rattle.ncl_gates.specs.Bits.{is_set}
-use Rattle.ncl_netlist.specs.declared.ids.NetId.{NetId}
-use Rattle.ncl_shape.specs.declared.rails.Rails.{Rails}
-use Rattle.ncl_shape.specs.declared.stage.StageCell.{StageCell}
-use Rattle.ncl_shape.specs.Stage.{StageData, IsStage, nets_of, out_of}
-use Rattle.ncl_base.proofs.Members.{Member, Contains-from_Member, Member-from_Contains, Member-map}
-use Rattle.ncl_stage.specs.Changes.{net_at}
-use Rattle.ncl_stage.specs.StageTables.{rail_at}
-use Rattle.ncl_stage.specs.Supports.{AreSupports, Marks}
-use Rattle.ncl_stage.specs.Wiring.{WiringData, IsWiring, pin_places, place_in, rail_places}
-use Rattle.ncl_stage.proofs.ChangedLaws.{net_at-cell, net_at-place, nets-length, pins-before}
-use Rattle.ncl_stage.proofs.NetLaws.{out_at-is, pins-of}
-use Rattle.ncl_stage.proofs.Unvisited.{place-of}
-use Rattle.ncl_verdict.specs.Masks.{AreMasks, AreReaches, IsPart, IsSupport, both, mask_at}
+use Rattle.ncl_verdict.proofs.Terms.{All-contains, AreMasks, AreReaches, AreSupports, Contains, Contains-from_Member, IsPart, IsStage, IsSupport, IsWiring, List, Marks, Member, Member-from_Contains, Member-map, NetId, Rails, Some, StageCell, StageData, WiringData, [], ap, arith, both, cases_lt, get_or, get_or_append_left, get_or_from_slice_get, get_or_push, inl, inr, is_set, length, length-append, length-map, map, mask_at, nat_eq, net_at, net_at-cell, net_at-place, nets-length, nets_of, out_at-is, out_of, pin_places, pins-before, pins-of, place-of, place_in, rail_at, rail_places, refl, slice_get, slice_get_within, subst, sym, true, ℕ, ◌%◌, ◌*◌, ◌++◌, ◌+◌, ◌-◌, ◌/◌, ◌<◌, ◌∙◌, ◌∷◌, ◌≡◌, ◌≤◌}
 use Rattle.ncl_verdict.proofs.MaskLaws.{marked, marked-at, marked-part}
 
 -- ---- one mask more

@@ -1,28 +1,6 @@
 -- Tables of functions that look at the bits of masks have no more beads than the masks weigh, and 276.
-use Rattle.std.proofs.Common.{◌≡◌, ℕ, zero, suc, ◌+◌, ◌-◌, ◌*◌, ◌^◌, ◌<◌, ◌≤◌, Bool, true, false, ◌||◌, cond, List, [], ◌∷◌, ◌++◌, length, map, get_or, None, ◌⊎◌, inl, inr, refl, sym, ap, ◌∙◌, subst, arith}
-use Rattle.std.specs.Prelude.{sum_by}
+use Rattle.ncl_verdict.proofs.Terms.{AllByRecursion, Beads, Bool, IsMarked, IsOrderOf, IsPart, List, Marked, Member, None, SpaceData, WordFunction, [], ap, arith, bead_count, bead_count-bounded, bead_count-computes, beads_of, both_ways, cases_lt, cond, contains-distinct_beads, distinct_beads, distinct_count, false, flat_map, flat_map-append, free, get_or, here, high_half, high_half-append, inl, inr, is_bead, is_free, is_same, len_grows, length, length-append, length-table_of, list_any, list_any-append, list_any-from_member, low_half, map, member_from_list_any, member_of_map, one_set, or_cases, or_left, or_right, ordered-table, placed, pow_suc, refl, same, subst, suc, sum_by, sum_by-cons, sym, table_of, table_order, there, true, weight_of, weights, with_tables, words, words_by, zero, ℕ, ◌*◌, ◌++◌, ◌+◌, ◌-◌, ◌<◌, ◌^◌, ◌||◌, ◌∙◌, ◌∷◌, ◌≡◌, ◌≤◌, ◌⊎◌}
 use Rattle.std.specs.FinSet as set
-use Rattle.std.specs.List.{AllByRecursion, flat_map, list_any}
-use Rattle.std.proofs.lemmas.Bool.{both_ways, cases_lt, or_cases, or_left, or_right}
-use Rattle.std.proofs.lemmas.Grind.{flat_map-append}
-use Rattle.std.proofs.lemmas.List.{length-append}
-use Rattle.std.proofs.lemmas.List.Folds.{list_any-append}
-use Rattle.std.proofs.lemmas.List.Sums.{sum_by-cons}
-use Rattle.ncl_base.proofs.Members.{Member, here, there, list_any-from_member, member_from_list_any, member_of_map}
-use Rattle.ncl_space.specs.Beads.{Beads, bead_count, beads_of, distinct_beads, high_half, is_bead, is_same, low_half}
-use Rattle.ncl_space.specs.Bounds.{IsMarked, Marked, is_free, weights}
-use Rattle.ncl_space.specs.Space.{SpaceData, with_tables}
-use Rattle.ncl_space.specs.Table.{table_of, words}
-use Rattle.ncl_space.proofs.BeadLaws.{bead_count-computes, contains-distinct_beads, distinct_count, one_set, table_order}
-use Rattle.ncl_space.proofs.BoundLaws.{bead_count-bounded}
-use Rattle.ncl_space.proofs.FreeLaws.{free}
-use Rattle.ncl_space.proofs.Nub.{same}
-use Rattle.ncl_space.proofs.SpaceLaws.{len_grows}
-use Rattle.ncl_space.proofs.TableLaws.{high_half-append, length-table_of, pow_suc}
-use Rattle.ncl_stage.specs.BitOrder.{IsOrderOf, placed, words_by}
-use Rattle.ncl_stage.specs.Tables.{WordFunction}
-use Rattle.ncl_stage.proofs.OrderedTables.{ordered-table}
-use Rattle.ncl_verdict.specs.Masks.{IsPart, weight_of}
 use Rattle.ncl_verdict.proofs.MaskLaws.{Sees, agree-sees, marks-weight, marks-width, marks_of}
 
 -- ---- the beads of two lists of tables

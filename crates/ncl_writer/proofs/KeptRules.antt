@@ -1,18 +1,5 @@
 -- The tree of a netlist's text keeps the rules beside the grammar.
-use Rattle.std.proofs.Common.{◌≡◌, ℕ, List, length, map, take, refl, sym, ◌∙◌, subst, arith, All, Contains}
-use Rattle.std.specs.Prelude.{◌↔◌}
-use Rattle.std.proofs.lemmas.List.{length-take, get_or-take}
-use Rattle.std.proofs.lemmas.List.Elements.{All-map, All-weaker}
-use Rattle.std.proofs.lemmas.Map.Keys.{apart_from_distinct, IsDistinct-from_apart}
-use Rattle.ncl_gates.specs.declared.cell_kind.CellKind.{CellKind}
-use Rattle.ncl_gates.specs.Cell.{pins_of}
-use Rattle.ncl_gates.proofs.PinLaws.{pins_of-differ}
-use Rattle.ncl_netlist.specs.declared.cell.Cell.{Cell}
-use Rattle.ncl_netlist.specs.Names.{same_name, AllDiffer}
-use Rattle.ncl_netlist.specs.Netlist.{NetlistData, CellFits, IsNetlist}
-use Rattle.ncl_reader.specs.Grammar.{Conn}
-use Rattle.ncl_reader.specs.Says.{Joined}
-use Rattle.ncl_reader.specs.Whole.{IsInstanceOf, KeepsRules}
+use Rattle.ncl_writer.proofs.Terms.{All, All-map, All-weaker, AllDiffer, Cell, CellFits, CellKind, Conn, Contains, IsDistinct-from_apart, IsInstanceOf, IsNetlist, Joined, KeepsRules, List, NetlistData, apart_from_distinct, arith, get_or-take, length, length-take, map, pins_of, pins_of-differ, refl, same_name, subst, sym, take, ℕ, ◌↔◌, ◌∙◌, ◌≡◌}
 use Rattle.ncl_writer.proofs.Tree.{tree_of}
 use Rattle.ncl_writer.proofs.TreeItems.{names_of, header_of-head_of, directed_by-items_of, joined_of, pins_joined, joined_in-items_of}
 

@@ -1,19 +1,7 @@
 -- The lexemes of a text that is put together piece by piece, from its end.
-use Rattle.std.proofs.Common.{◌≡◌, ℕ, ◌+◌, ◌-◌, List, [], ◌∷◌, ◌++◌, length, map, take, drop, true, refl, sym, ap, ◌∙◌, subst, append_assoc, arith}
-use Rattle.std.specs.Prelude.{slice_range}
-use Rattle.std.proofs.lemmas.List.{length_push, length-append, take_at, drop_at}
-use Rattle.ncl_token.specs.declared.token.Token.{Token}
-use Rattle.ncl_token.specs.declared.token.TokenKind.{TokenKind}
+use Rattle.ncl_writer.proofs.Terms.{AreTokens, Comma, Dot, IsToken, LParen, Lexeme, List, Mark, RParen, Semi, Token, TokenKind, [], ap, append_assoc, arith, drop, drop_at, is_comma, is_dot, is_left_parenthesis, is_right_parenthesis, is_semicolon, is_white, leaves, length, length-append, length_push, lexeme_of, map, name_of, next_here, no_space, refl, slice_range, subst, sym, take, take_at, then_token, true, white_then, ℕ, ◌++◌, ◌+◌, ◌-◌, ◌∙◌, ◌∷◌, ◌≡◌}
 use Rattle.ncl_token.specs.declared.token.TokenKind.TheVariants as token
-use Rattle.ncl_token.specs.Bytes.{is_white}
-use Rattle.ncl_token.specs.Spaces.{no_space}
-use Rattle.ncl_token.specs.Following.{leaves}
-use Rattle.ncl_token.specs.Reading.{name_of}
-use Rattle.ncl_token.specs.Tokens.{IsToken, is_left_parenthesis, is_right_parenthesis, is_comma, is_semicolon, is_dot, AreTokens, at_end, then_token, End}
-use Rattle.ncl_token.proofs.Following.{next_here, white_then}
-use Rattle.ncl_reader.specs.declared.lexeme.Sign.TheVariants.{LParen, RParen, Comma, Semi, Dot}
-use Rattle.ncl_reader.specs.Lexemes.{Lexeme, Mark}
-use Rattle.ncl_reader.specs.Words.{lexeme_of}
+use Rattle.ncl_token.specs.Tokens.{at_end, End}
 
 -- the lexeme of a token of some bytes
 abbrev pub lexeme_in : List ℕ → Token → Lexeme

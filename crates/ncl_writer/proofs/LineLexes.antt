@@ -1,17 +1,5 @@
 -- The lexemes of the lines of a netlist's text.
-use Rattle.std.proofs.Common.{◌≡◌, ℕ, ◌<◌, List, [], ◌∷◌, ◌++◌, length, map, Bool, true, false, refl, ap, ◌∙◌, append_assoc, arith, None, sym, subst}
-use Rattle.std.specs.Prelude.{codes, if◌then◌else◌}
-use Rattle.std.specs.List.{flat_map, join_with_byte, AllByRecursion}
-use Rattle.ncl_gates.specs.declared.cell_kind.CellKind.{CellKind}
-use Rattle.ncl_gates.specs.Name.{cell_name_of, is_capital_word}
-use Rattle.ncl_gates.proofs.PinLaws.{cell_name_of-capital}
-use Rattle.ncl_netlist.specs.declared.port.Port.{Port}
-use Rattle.ncl_reader.specs.declared.keyword.Keyword.TheVariants.{Module, Way as word_of}
-use Rattle.ncl_reader.specs.declared.lexeme.Sign.TheVariants.{LParen, RParen, Dot, Semi}
-use Rattle.ncl_reader.specs.Lexemes.{Lexeme, Word, Name, Mark}
-use Rattle.ncl_reader.specs.Grammar.{Conn, Item, Joins, name_phrase, conn_phrase, item_phrase, head_phrase, row_phrase}
-use Rattle.ncl_writer.specs.Names.{spelled_name, IsWritableName}
-use Rattle.ncl_writer.specs.Text.{port_line, wire_line, pin_text, opened, closed}
+use Rattle.ncl_writer.proofs.Terms.{AllByRecursion, Bool, CellKind, Conn, Dot, IsWritableName, Item, Joins, LParen, Lexeme, List, Mark, Module, Name, None, Port, RParen, Semi, Word, [], ap, append_assoc, arith, cell_name_of, cell_name_of-capital, closed, codes, conn_phrase, false, flat_map, head_phrase, if◌then◌else◌, is_capital_word, item_phrase, join_with_byte, length, map, name_phrase, opened, pin_text, port_line, refl, row_phrase, spelled_name, subst, sym, true, wire_line, word_of, ℕ, ◌++◌, ◌<◌, ◌∙◌, ◌∷◌, ◌≡◌}
 use Rattle.ncl_writer.proofs.Lexing.{Lexes, lexes-white, lexes-along, lexes-as, lexes-left, lexes-right, lexes-semi, lexes-dot}
 use Rattle.ncl_writer.proofs.NameLexes.{lexes-name, lexes-plain, capital_plain, name_after_left, lexes-module, lexes-input, lexes-output, lexes-wire}
 use Rattle.ncl_writer.proofs.Rows.{row_of, lexes-row, row_after_left}

@@ -1,24 +1,6 @@
 -- The lexemes of names and reserved words.
-use Rattle.std.proofs.Common.{◌≡◌, ◌<◌, ℕ, ◌-◌, Bool, true, false, not, ◌&&◌, ◌||◌, List, [], ◌∷◌, ◌++◌, length, take, Option, Some, None, refl, ap, ◌∙◌, subst, arith, inl, inr}
-use Rattle.std.specs.Prelude.{◌==◌, codes, is_none, nat_eq, nat_le, if◌then◌else◌}
-use Rattle.std.specs.List.{list_all, list_any}
-use Rattle.std.specs.Str.{bytes_eq}
-use Rattle.std.specs.Int.{is_in_range}
-use Rattle.std.specs.Char.{is_ascii_uppercase, is_ascii_alphanumeric}
-use Rattle.std.proofs.lemmas.Bool.{and_parts, and_from, or_cases, or_left, or_right, both_ways, eqb-true, leb-true}
-use Rattle.std.proofs.lemmas.List.{length_push, take_at}
+use Rattle.ncl_writer.proofs.Terms.{Bool, EndModule, Input, IsToken, IsWritableName, Keyword, LeftOut, Lexeme, List, Module, Name, None, Option, Output, Some, Wire, Word, [], and_from, and_parts, ap, arith, begins_word, both_ways, bytes_eq, codes, continues_word, eqb-true, false, if◌then◌else◌, inl, inr, is_ascii_alphanumeric, is_ascii_uppercase, is_capital_word, is_escaped, is_graphic, is_in_range, is_none, is_plain, is_word, keyword_of, leaves, leb-true, left_out, length, length_push, list_all, list_any, name_of, nat_eq, nat_le, not, or_cases, or_left, or_right, refl, spelled_name, subst, take, take_at, true, word_lexeme, word_of, ℕ, ◌&&◌, ◌++◌, ◌-◌, ◌<◌, ◌==◌, ◌||◌, ◌∙◌, ◌∷◌, ◌≡◌}
 use Rattle.ncl_token.specs.declared.token.TokenKind.TheVariants as token
-use Rattle.ncl_token.specs.Bytes.{begins_word, continues_word, is_graphic}
-use Rattle.ncl_token.specs.Following.{leaves}
-use Rattle.ncl_token.specs.Tokens.{IsToken, is_word, is_escaped}
-use Rattle.ncl_token.specs.Reading.{name_of}
-use Rattle.ncl_gates.specs.Name.{is_capital_word}
-use Rattle.ncl_reader.specs.declared.keyword.Keyword.{Keyword}
-use Rattle.ncl_reader.specs.declared.keyword.Keyword.TheVariants.{Module, EndModule, Wire, LeftOut, Way as word_of}
-use Rattle.ncl_reader.specs.declared.keyword.Way.TheVariants.{Input, Output}
-use Rattle.ncl_reader.specs.Lexemes.{Lexeme, Name, Word}
-use Rattle.ncl_reader.specs.Words.{keyword_of, word_lexeme, left_out}
-use Rattle.ncl_writer.specs.Names.{is_plain, spelled_name, IsWritableName}
 use Rattle.ncl_writer.proofs.Lexing.{Lexes, lexes-nothing, lexes-white, lexes-token}
 
 -- ---- names

@@ -1,11 +1,5 @@
 -- What stands between parentheses, one piece after another.
-use Rattle.std.proofs.Common.{◌≡◌, ℕ, zero, suc, ◌+◌, ◌<◌, List, [], ◌∷◌, ◌++◌, length, map, take, get_or, refl, sym, ap, subst, ◌∙◌, append_assoc, arith, All, ◌≤◌, ◌⊎◌, inl, inr}
-use Rattle.std.specs.List.{join_with_byte, zip}
-use Rattle.std.proofs.Math.Nat.{suc-add}
-use Rattle.std.proofs.lemmas.Bool.{cases_lt}
-use Rattle.std.proofs.lemmas.List.{take_more, map_push, get_or-map, get_or_past}
-use Rattle.ncl_netlist.specs.declared.ids.NetId.{NetId}
-use Rattle.ncl_writer.specs.Text.{opened}
+use Rattle.ncl_writer.proofs.Terms.{All, List, NetId, [], ap, append_assoc, arith, cases_lt, get_or, get_or-map, get_or_past, inl, inr, join_with_byte, length, map, map_push, opened, refl, subst, suc, suc-add, sym, take, take_more, zero, zip, ℕ, ◌++◌, ◌+◌, ◌<◌, ◌∙◌, ◌∷◌, ◌≡◌, ◌≤◌, ◌⊎◌}
 
 -- what stands in front of the next piece: a parenthesis (40), or after others a comma (44)
 abbrev pub front_of : List (List ℕ) → ℕ

@@ -1,20 +1,5 @@
 -- The text of a netlist reads as the parts that say it.
-use Rattle.std.proofs.Common.{◌≡◌, ℕ, List, [], ◌∷◌, ◌++◌, map, refl, sym, ap, ◌∙◌, subst}
-use Rattle.std.proofs.lemmas.List.{map-append}
-use Rattle.ncl_token.specs.declared.token.Token.{Token}
-use Rattle.ncl_token.specs.Tokens.{End as at_end}
-use Rattle.ncl_netlist.specs.declared.parts.Parts.{Parts}
-use Rattle.ncl_netlist.specs.Netlist.{NetlistData, IsNetlist}
-use Rattle.ncl_netlist.specs.Parts.{netlist_of, parts_said}
-use Rattle.ncl_netlist.specs.Faults.{IsFaultless}
-use Rattle.ncl_netlist.proofs.Said.{netlist_of-parts_said, faultless-parts_said}
-use Rattle.ncl_reader.specs.Lexemes.{End, Placed, lexemes}
-use Rattle.ncl_reader.specs.Grammar.{text_phrase}
-use Rattle.ncl_reader.specs.Rules.{NoneBreaks}
-use Rattle.ncl_reader.specs.Reads.{placed_of, stop_of, placed_in, Reads}
-use Rattle.ncl_reader.proofs.WholeRules.{whole_rules}
-use Rattle.ncl_writer.specs.Names.{IsWritable}
-use Rattle.ncl_writer.specs.Text.{text_of}
+use Rattle.ncl_writer.proofs.Terms.{End, IsFaultless, IsNetlist, IsWritable, List, NetlistData, NoneBreaks, Parts, Placed, Reads, Token, [], ap, at_end, faultless-parts_said, lexemes, map, map-append, netlist_of, netlist_of-parts_said, parts_said, placed_in, placed_of, refl, stop_of, subst, sym, text_of, text_phrase, whole_rules, ℕ, ◌++◌, ◌∙◌, ◌∷◌, ◌≡◌}
 use Rattle.ncl_writer.proofs.Lexing.{lexeme_in}
 use Rattle.ncl_writer.proofs.Tree.{tree_of}
 use Rattle.ncl_writer.proofs.TextLexes.{lexes-text, phrases-tree}

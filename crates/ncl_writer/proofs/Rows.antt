@@ -1,11 +1,6 @@
 -- One or more with commas between, as a text and as a phrase.
-use Rattle.std.proofs.Common.{◌≡◌, ℕ, List, [], ◌∷◌, ◌++◌, map, true, refl, ap, ◌∙◌, append_assoc}
-use Rattle.std.specs.List.{join_with_byte, AllByRecursion}
+use Rattle.ncl_writer.proofs.Terms.{AllByRecursion, Comma, Lexeme, List, Mark, Row, [], all_of, ap, append_assoc, join_with_byte, leaves, map, refl, row_phrase, true, with_commas, ℕ, ◌++◌, ◌∙◌, ◌∷◌, ◌≡◌}
 use Rattle.ncl_token.specs.declared.token.TokenKind.TheVariants as token
-use Rattle.ncl_token.specs.Following.{leaves}
-use Rattle.ncl_reader.specs.declared.lexeme.Sign.TheVariants.{Comma}
-use Rattle.ncl_reader.specs.Lexemes.{Lexeme, Mark}
-use Rattle.ncl_reader.specs.Grammar.{Row, all_of, with_commas, row_phrase}
 use Rattle.ncl_writer.proofs.Lexing.{Lexes, lexes-along, lexes-as, lexes-comma}
 
 -- the row of one and those behind it

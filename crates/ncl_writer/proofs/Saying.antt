@@ -1,19 +1,5 @@
 -- The tree of a netlist's text says the parts that say the netlist.
-use Rattle.std.proofs.Common.{◌≡◌, ℕ, Bool, true, false, List, [], ◌∷◌, ◌++◌, length, map, refl, sym, ◌∙◌, subst, arith, All, unwrap_or, Some, None, ap}
-use Rattle.std.specs.List.{find, flat_map, zip, AllByRecursion}
-use Rattle.std.specs.Str.{bytes_eq}
-use Rattle.std.proofs.lemmas.List.Elements.{All-head, All-tail}
-use Rattle.std.proofs.lemmas.Map.Keys.{IsDistinct-head, IsDistinct-tail}
-use Rattle.ncl_gates.specs.Cell.{pins_of}
-use Rattle.ncl_gates.proofs.PinLaws.{pins_of-differ}
-use Rattle.ncl_netlist.specs.declared.port.Port.{Port}
-use Rattle.ncl_netlist.specs.declared.cell.Cell.{Cell}
-use Rattle.ncl_netlist.specs.Names.{same_name, AllDiffer}
-use Rattle.ncl_netlist.specs.Netlist.{NetlistData, pin_names, CellFits, IsNetlist}
-use Rattle.ncl_netlist.specs.Parts.{part_of, parts_said}
-use Rattle.ncl_netlist.proofs.NameLists.{same_itself}
-use Rattle.ncl_reader.specs.Grammar.{Conn}
-use Rattle.ncl_reader.specs.Says.{Said, ports_of, net_on, AreCellsOf, Says}
+use Rattle.ncl_writer.proofs.Terms.{All, All-head, All-tail, AllByRecursion, AllDiffer, AreCellsOf, Bool, Cell, CellFits, Conn, IsDistinct-head, IsDistinct-tail, IsNetlist, List, NetlistData, None, Port, Said, Says, Some, [], ap, arith, bytes_eq, false, find, flat_map, length, map, net_on, part_of, parts_said, pin_names, pins_of, pins_of-differ, ports_of, refl, same_itself, same_name, subst, sym, true, unwrap_or, zip, ℕ, ◌++◌, ◌∙◌, ◌∷◌, ◌≡◌}
 use Rattle.ncl_writer.proofs.Tree.{tree_of}
 use Rattle.ncl_writer.proofs.TreeItems.{names_of, header_of-head_of, said_port, said_by-tree_of, length-pin_names, joined_of, joined_in-items_of}
 use Rattle.ncl_writer.proofs.KeptRules.{keeps_rules}

@@ -1,22 +1,5 @@
 -- The lexemes of a netlist's text are those of its tree.
-use Rattle.std.proofs.Common.{◌≡◌, ℕ, ◌+◌, ◌<◌, List, [], ◌∷◌, ◌++◌, length, map, get_or, true, refl, sym, ap, ◌∙◌, subst, append_assoc, arith, All, None}
-use Rattle.std.specs.Prelude.{codes}
-use Rattle.std.specs.List.{flat_map, zip, AllByRecursion}
-use Rattle.std.proofs.lemmas.List.{length-map, length_push}
-use Rattle.std.proofs.lemmas.List.Concat.{flat_map-append}
-use Rattle.std.proofs.lemmas.List.Elements.{recursion_from_All, All-map, All-push, All-take, All-drop, All-head, All-tail}
-use Rattle.ncl_gates.specs.Cell.{pins_of}
-use Rattle.ncl_gates.specs.Name.{cell_name_of, is_capital_word}
-use Rattle.ncl_gates.proofs.PinLaws.{pins_of-capital}
-use Rattle.ncl_netlist.specs.declared.ids.NetId.{NetId}
-use Rattle.ncl_netlist.specs.declared.port.Port.{Port}
-use Rattle.ncl_netlist.specs.declared.cell.Cell.{Cell}
-use Rattle.ncl_netlist.specs.Netlist.{NetlistData, pin_names, CellFits, IsNetlist}
-use Rattle.ncl_reader.specs.declared.keyword.Keyword.TheVariants.{EndModule}
-use Rattle.ncl_reader.specs.Lexemes.{Lexeme, Word, End}
-use Rattle.ncl_reader.specs.Grammar.{Conn, Item, item_phrase, head_phrase, text_phrase}
-use Rattle.ncl_writer.specs.Names.{spelled_name, IsWritableName, IsWritable}
-use Rattle.ncl_writer.specs.Text.{port_line, wire_line, pin_text, cell_line, text_of, opened, closed}
+use Rattle.ncl_writer.proofs.Terms.{All, All-drop, All-head, All-map, All-push, All-tail, All-take, AllByRecursion, Cell, CellFits, Conn, End, EndModule, IsNetlist, IsWritable, IsWritableName, Item, Lexeme, List, NetId, NetlistData, None, Port, Word, [], ap, append_assoc, arith, cell_line, cell_name_of, closed, codes, flat_map, flat_map-append, get_or, head_phrase, is_capital_word, item_phrase, length, length-map, length_push, map, opened, pin_names, pin_text, pins_of, pins_of-capital, port_line, recursion_from_All, refl, spelled_name, subst, sym, text_of, text_phrase, true, wire_line, zip, ℕ, ◌++◌, ◌+◌, ◌<◌, ◌∙◌, ◌∷◌, ◌≡◌}
 use Rattle.ncl_writer.proofs.Lexing.{Lexes}
 use Rattle.ncl_writer.proofs.NameLexes.{lexes-endmodule}
 use Rattle.ncl_writer.proofs.Tree.{port_item, wire_item, wires_of, conns_of, cell_item, head_of, tree_of}

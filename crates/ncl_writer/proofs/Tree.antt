@@ -1,14 +1,5 @@
 -- The tree of the text of a netlist.
-use Rattle.std.proofs.Common.{ℕ, List, [], ◌∷◌, ◌++◌, length, map, drop, Option, Some, None, Bool, true, false}
-use Rattle.std.specs.List.{zip}
-use Rattle.ncl_gates.specs.Cell.{pins_of}
-use Rattle.ncl_gates.specs.Name.{cell_name_of}
-use Rattle.ncl_netlist.specs.declared.port.Port.{Port}
-use Rattle.ncl_netlist.specs.declared.cell.Cell.{Cell}
-use Rattle.ncl_netlist.specs.Netlist.{NetlistData, pin_names}
-use Rattle.ncl_reader.specs.declared.keyword.Way.{Way}
-use Rattle.ncl_reader.specs.declared.keyword.Way.TheVariants.{Input, Output}
-use Rattle.ncl_reader.specs.Grammar.{Row, Plain, Lead, Gives, Wires, Conn, Item, Declares, Joins, Listing, Names, Head, Text}
+use Rattle.ncl_writer.proofs.Terms.{Bool, Cell, Conn, Declares, Gives, Head, Input, Item, Joins, Lead, List, Listing, Names, NetlistData, None, Option, Output, Plain, Port, Row, Some, Text, Way, Wires, [], cell_name_of, drop, false, length, map, pin_names, pins_of, true, zip, ℕ, ◌++◌, ◌∷◌}
 use Rattle.ncl_writer.proofs.Rows.{row_of}
 
 abbrev pub ports_of : List (List ℕ) → Option Listing

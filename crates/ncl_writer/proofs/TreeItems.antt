@@ -1,20 +1,5 @@
 -- What the tree of a netlist's text declares and joins.
-use Rattle.std.proofs.Common.{◌≡◌, ℕ, ◌<◌, Bool, true, false, List, [], ◌∷◌, ◌++◌, length, map, get_or, refl, ap, ◌∙◌, arith, All, ◌≢◌, Some, None, sym, subst}
-use Rattle.std.specs.List.{flat_map, zip}
-use Rattle.std.proofs.lemmas.List.{append-nil, length-map, length_push}
-use Rattle.std.proofs.lemmas.List.Concat.{flat_map-append}
-use Rattle.std.proofs.lemmas.List.Elements.{All-head, All-tail}
-use Rattle.ncl_gates.specs.Cell.{pins_of}
-use Rattle.ncl_gates.specs.Name.{cell_name_of}
-use Rattle.ncl_gates.proofs.PinLaws.{pins_of-some}
-use Rattle.ncl_netlist.specs.declared.ids.NetId.{NetId}
-use Rattle.ncl_netlist.specs.declared.port.Port.{Port}
-use Rattle.ncl_netlist.specs.declared.cell.Cell.{Cell}
-use Rattle.ncl_netlist.specs.Netlist.{NetlistData, pin_names, CellFits, IsNetlist}
-use Rattle.ncl_reader.specs.Grammar.{Row, all_of, Direction, Group, group_names, Conn, Item, Ansi, groups_of, header_of}
-use Rattle.ncl_reader.specs.Rules.{directed_in, directed_by}
-use Rattle.ncl_reader.specs.Says.{Joined, joined_in, Said, said_in, said_in_header, said_by, way_output}
-use Rattle.ncl_reader.specs.Whole.{AreWhole, AreScalar, IsPlain}
+use Rattle.ncl_writer.proofs.Terms.{All, All-head, All-tail, Ansi, AreScalar, AreWhole, Bool, Cell, CellFits, Conn, Direction, Group, IsNetlist, IsPlain, Item, Joined, List, NetId, NetlistData, None, Port, Row, Said, Some, [], all_of, ap, append-nil, arith, cell_name_of, directed_by, directed_in, false, flat_map, flat_map-append, get_or, group_names, groups_of, header_of, joined_in, length, length-map, length_push, map, pin_names, pins_of, pins_of-some, refl, said_by, said_in, said_in_header, subst, sym, true, way_output, zip, ℕ, ◌++◌, ◌<◌, ◌∙◌, ◌∷◌, ◌≡◌, ◌≢◌}
 use Rattle.ncl_writer.proofs.Rows.{all_of-row_of}
 use Rattle.ncl_writer.proofs.Tree.{ports_of, way_of, port_item, wire_item, wires_of, conns_of, conn_row, cell_item, head_of, items_of, tree_of}
 

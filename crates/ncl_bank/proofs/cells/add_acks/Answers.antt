@@ -1,8 +1,4 @@
-use Rattle.std.proofs.Common.{◌≡◌, ◌∷◌, ◌++◌, [], map, length, ◌∙◌, arith}
-use Rattle.std.proofs.lemmas.List.{length_push}
-use Rattle.std.proofs.lemmas.Slice.Zip.{zip_turn, zip_end}
-use Rattle.ncl_gates.specs.declared.cell_kind.CellKind.TheVariants.{Ack}
-use Rattle.ncl_bank.specs.BankPlan.{cell_at, ack_of}
+use Rattle.ncl_bank.proofs.Terms.{Ack, [], ack_of, arith, cell_at, length, length_push, map, zip_end, zip_turn, ◌++◌, ◌∙◌, ◌∷◌, ◌≡◌}
 use Rattle.ncl_bank.proofs.Zipped.{zip_starts, all_added, acks_few, acks_more}
 use Rattle.ncl_bank.proofs.cells.add_acks.Goals as goal
 

@@ -1,6 +1,4 @@
-use Rattle.std.proofs.Common.{length, map, take}
-use Rattle.std.specs.List.{zip}
-use Rattle.ncl_bank.specs.BankPlan.{ack_of}
+use Rattle.ncl_bank.proofs.Terms.{ack_of, length, map, take, zip}
 use Rattle.ncl_bank.proofs.Named.{IsAdded}
 use Rattle.ncl_bank.proofs.cells.add_acks.Given as goal
 

@@ -1,7 +1,4 @@
-use Rattle.std.proofs.Common.{◌∷◌, [], length, ap, arith}
-use Rattle.std.proofs.lemmas.List.{length_push}
-use Rattle.std.proofs.lemmas.Slice.Zip.{zip_turn, zip_end}
-use Rattle.ncl_bank.specs.BankPlan.{cell_at, register_with}
+use Rattle.ncl_bank.proofs.Terms.{[], ap, arith, cell_at, length, length_push, register_with, zip_end, zip_turn, ◌∷◌}
 use Rattle.ncl_bank.proofs.Zipped.{zip_starts, all_added, registers_of, registers_few, registers_more}
 use Rattle.ncl_bank.proofs.cells.add_registers.Goals as goal
 

@@ -1,5 +1,4 @@
-use Rattle.std.proofs.Common.{length, take}
-use Rattle.std.specs.List.{zip}
+use Rattle.ncl_bank.proofs.Terms.{length, take, zip}
 use Rattle.ncl_bank.proofs.Named.{IsAdded}
 use Rattle.ncl_bank.proofs.Zipped.{registers_of}
 use Rattle.ncl_bank.proofs.cells.add_registers.Given as goal

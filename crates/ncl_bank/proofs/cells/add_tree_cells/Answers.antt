@@ -1,6 +1,4 @@
-use Rattle.std.proofs.Common.{◌∷◌, ◌++◌, [], length, ◌∙◌, arith}
-use Rattle.ncl_gates.specs.declared.cell_kind.CellKind.TheVariants.{Gate}
-use Rattle.ncl_bank.specs.BankPlan.{cell_at}
+use Rattle.ncl_bank.proofs.Terms.{Gate, [], arith, cell_at, length, ◌++◌, ◌∙◌, ◌∷◌}
 use Rattle.ncl_bank.proofs.Zipped.{tree_cells_few, tree_cells_more}
 use Rattle.ncl_bank.proofs.cells.add_tree_cells.Goals as goal
 

@@ -1,5 +1,4 @@
-use Rattle.std.proofs.Common.{map, take}
-use Rattle.ncl_bank.specs.BankPlan.{tree_cell_of}
+use Rattle.ncl_bank.proofs.Terms.{map, take, tree_cell_of}
 use Rattle.ncl_bank.proofs.Named.{IsAdded}
 use Rattle.ncl_bank.proofs.cells.add_tree_cells.Given as goal
 

@@ -1,9 +1,4 @@
-use Rattle.std.proofs.Common.{◌≡◌, ◌<◌, ◌∷◌, ◌++◌, [], map, take, get_or, length, sym, ap, ◌∙◌}
-use Rattle.std.proofs.lemmas.List.{map-append, take_all, get_or_read}
-use Rattle.std.proofs.lemmas.List.Elements.{All-get_or, All-same}
-use Rattle.ncl_base.proofs.Growing.{map_push}
-use Rattle.ncl_netlist.specs.declared.ids.NetId.{NetId}
-use Rattle.ncl_bank.specs.BankPlan.{IsNetOf, name_at}
+use Rattle.ncl_bank.proofs.Terms.{All-get_or, All-same, IsNetOf, NetId, [], ap, get_or, get_or_read, length, map, map-append, map_push, name_at, sym, take, take_all, ◌++◌, ◌<◌, ◌∙◌, ◌∷◌, ◌≡◌}
 use Rattle.ncl_bank.proofs.cells.pin_names.Goals as goal
 
 pub loop-net-preserved : goal.loop-net-preserved

@@ -1,5 +1,4 @@
-use Rattle.std.proofs.Common.{◌≡◌, map, take}
-use Rattle.ncl_bank.specs.BankPlan.{name_at}
+use Rattle.ncl_bank.proofs.Terms.{map, name_at, take, ◌≡◌}
 use Rattle.ncl_bank.proofs.cells.pin_names.Given as goal
 
 -- the names of the inputs so far

@@ -1,9 +1,4 @@
-use Rattle.std.proofs.Common.{◌≡◌, ◌∷◌, ◌++◌, [], length, sym, ap, subst, ◌∙◌, arith}
-use Rattle.std.proofs.lemmas.List.FromFn.{map-range_with_len_more, length-map-range_with_len}
-use Rattle.ncl_tree.specs.declared.tree.Family.TheVariants.{All as Conjunctions}
-use Rattle.ncl_tree.specs.Gates.{GatesData, AreNumbered}
-use Rattle.ncl_tree.specs.GateTree.{GateTree}
-use Rattle.ncl_bank.specs.BankPlan.{nets_below}
+use Rattle.ncl_bank.proofs.Terms.{AreNumbered, Conjunctions, GateTree, GatesData, [], ap, arith, length, length-map-range_with_len, map-range_with_len_more, nets_below, subst, sym, ◌++◌, ◌∙◌, ◌∷◌, ◌≡◌}
 use Rattle.ncl_bank.proofs.Numbered.{net_at}
 use Rattle.ncl_bank.proofs.completion.completion.Goals as goal
 

@@ -1,5 +1,4 @@
-use Rattle.std.proofs.Common.{◌≡◌}
-use Rattle.ncl_bank.specs.BankPlan.{nets_below}
+use Rattle.ncl_bank.proofs.Terms.{nets_below, ◌≡◌}
 use Rattle.ncl_bank.proofs.completion.completion.Given as goal
 
 -- the leaves so far

@@ -1,7 +1,4 @@
-use Rattle.std.proofs.Common.{◌≡◌, ◌+◌, ◌-◌, ◌∷◌, ◌++◌, [], map, sym, ap, ◌∙◌, arith}
-use Rattle.std.specs.List.{range_with_len}
-use Rattle.std.proofs.lemmas.List.FromFn.{map-range_with_len_more}
-use Rattle.ncl_tree.specs.PartNames.{net_name_of}
+use Rattle.ncl_bank.proofs.Terms.{[], ap, arith, map, map-range_with_len_more, net_name_of, range_with_len, sym, ◌++◌, ◌+◌, ◌-◌, ◌∙◌, ◌∷◌, ◌≡◌}
 use Rattle.ncl_bank.proofs.nets.net_names.Goals as goal
 
 pub loop-number-preserved : goal.loop-number-preserved

@@ -1,6 +1,4 @@
-use Rattle.std.proofs.Common.{◌≡◌, ◌-◌, map}
-use Rattle.std.specs.List.{range_with_len}
-use Rattle.ncl_tree.specs.PartNames.{net_name_of}
+use Rattle.ncl_bank.proofs.Terms.{map, net_name_of, range_with_len, ◌-◌, ◌≡◌}
 use Rattle.ncl_bank.proofs.nets.net_names.Given as goal
 
 -- the names so far

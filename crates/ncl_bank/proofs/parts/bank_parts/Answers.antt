@@ -1,8 +1,4 @@
-use Rattle.std.proofs.Common.{◌≡◌, ◌+◌, ◌*◌, ◌++◌, length, map, ap, ◌∙◌, arith}
-use Rattle.std.specs.Prelude.{All}
-use Rattle.std.proofs.lemmas.List.Elements.{All-same}
-use Rattle.ncl_shape.specs.declared.stage.StageCell.{StageCell}
-use Rattle.ncl_bank.specs.BankPlan.{named_from, tree_cell_of, names_of_nets, IsNetOf}
+use Rattle.ncl_bank.proofs.Terms.{All, All-same, IsNetOf, StageCell, ap, arith, length, map, named_from, names_of_nets, tree_cell_of, ◌*◌, ◌++◌, ◌+◌, ◌∙◌, ◌≡◌}
 use Rattle.ncl_bank.proofs.BankLaws.{registers_added, length-registers_added, acks_added, length-acks_added, tree_added, inputs_within, outputs_within, AreBankParts-planned}
 use Rattle.ncl_bank.proofs.parts.bank_parts.Goals as goal
 

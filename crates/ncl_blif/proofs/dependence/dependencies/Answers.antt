@@ -1,10 +1,4 @@
-use Rattle.std.proofs.Common.{◌≡◌, map, sym, ap, ◌∙◌, subst}
-use Rattle.std.specs.List.{filter_map}
-use Rattle.std.specs.Ordering.{nat_cmp}
-use Rattle.std.specs.BTreeMap.{get}
-use Rattle.std.proofs.lemmas.List.{take_all}
-use Rattle.ncl_graph.specs.Graph.{IsGraph}
-use Rattle.ncl_blif.specs.Dependence.{dependency_graph}
+use Rattle.ncl_blif.proofs.Terms.{IsGraph, ap, dependency_graph, filter_map, get, map, nat_cmp, subst, sym, take_all, ◌∙◌, ◌≡◌}
 use Rattle.ncl_blif.proofs.DependenceLaws.{IsGraph-dependency_graph}
 use Rattle.ncl_blif.proofs.dependence.dependencies.Goals as goal
 

@@ -1,7 +1,4 @@
-use Rattle.std.proofs.Common.{◌≡◌, map, take}
-use Rattle.std.specs.List.{filter_map}
-use Rattle.std.specs.Ordering.{nat_cmp}
-use Rattle.std.specs.BTreeMap.{get}
+use Rattle.ncl_blif.proofs.Terms.{filter_map, get, map, nat_cmp, take, ◌≡◌}
 use Rattle.ncl_blif.proofs.dependence.dependencies.Given as goal
 
 -- the covers so far have the successors that the map of drivers gives them

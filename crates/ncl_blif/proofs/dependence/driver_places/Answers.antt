@@ -1,8 +1,5 @@
-use Rattle.std.proofs.Common.{◌≡◌, true, take, is_some, subst, arith, ◌==◌}
-use Rattle.std.proofs.lemmas.Bool.{eqb-true}
-use Rattle.std.proofs.lemmas.Grind.{common_steps}
-use Rattle.ncl_blif.specs.Dependence.{driver_place}
-use Rattle.ncl_base.proofs.Growing.{position_from-more, option_or_stays}
+use Rattle.ncl_blif.proofs.Terms.{arith, common_steps, driver_place, eqb-true, option_or_stays, position_from-more, subst, take, true, ◌==◌, ◌≡◌}
+use Rattle.std.proofs.Common.{is_some}
 use Rattle.ncl_blif.proofs.dependence.driver_places.Goals as goal
 use Rattle.ncl_blif.proofs.dependence.driver_places.Goals.{then-not-contains_key+in_ok-insert, else-not-contains_key}
 

@@ -1,7 +1,4 @@
-use Rattle.std.proofs.Common.{◌≡◌, ℕ, take}
-use Rattle.std.specs.Ordering.{nat_cmp}
-use Rattle.std.specs.BTreeMap.{get}
-use Rattle.ncl_blif.specs.Dependence.{driver_place}
+use Rattle.ncl_blif.proofs.Terms.{driver_place, get, nat_cmp, take, ℕ, ◌≡◌}
 use Rattle.ncl_blif.proofs.dependence.driver_places.Given as goal
 
 -- the map has the places among the covers so far

@@ -1,8 +1,4 @@
-use Rattle.std.proofs.Common.{arith}
-use Rattle.std.specs.Ordering.{nat_cmp}
-use Rattle.std.specs.BTreeMap.{get}
-use Rattle.std.proofs.lemmas.Grind.{common_steps}
-use Rattle.ncl_base.proofs.Growing.{filter_map-more}
+use Rattle.ncl_blif.proofs.Terms.{arith, common_steps, filter_map-more, get, nat_cmp}
 use Rattle.ncl_blif.proofs.dependence.places_of.Goals as goal
 use Rattle.ncl_blif.proofs.dependence.places_of.Goals.{in-Some+in_ok-push, in_default}
 

@@ -1,7 +1,4 @@
-use Rattle.std.proofs.Common.{◌≡◌, take}
-use Rattle.std.specs.List.{filter_map}
-use Rattle.std.specs.Ordering.{nat_cmp}
-use Rattle.std.specs.BTreeMap.{get}
+use Rattle.ncl_blif.proofs.Terms.{filter_map, get, nat_cmp, take, ◌≡◌}
 use Rattle.ncl_blif.proofs.dependence.places_of.Given as goal
 
 -- the places of the signals so far

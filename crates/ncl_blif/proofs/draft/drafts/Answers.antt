@@ -1,13 +1,4 @@
-use Rattle.std.proofs.Common.{◌≡◌, ◌⊎◌, List, Some, None, length, map, ap, sym, ◌∙◌, subst, arith, inr}
-use Rattle.std.specs.Prelude.{MatchResult}
-use Rattle.std.proofs.lemmas.Result.{err_from_is_err_and}
-use Rattle.ncl_blif.specs.declared.fault.BlifFault.TheVariants.{Memory as OutOfMemory}
-use Rattle.ncl_blif.specs.Lines.{lines_of}
-use Rattle.ncl_blif.specs.LineFaults.{first_line_fault, first_section_fault}
-use Rattle.ncl_blif.specs.Counted.{AreCounted}
-use Rattle.ncl_blif.specs.Named.{named_model, drivers_of}
-use Rattle.ncl_blif.specs.Parts.{PartData, parts_of, sections_of}
-use Rattle.ncl_blif.specs.Answer.{models_said}
+use Rattle.ncl_blif.proofs.Terms.{AreCounted, List, MatchResult, None, OutOfMemory, PartData, Some, ap, arith, drivers_of, err_from_is_err_and, first_line_fault, first_section_fault, inr, length, lines_of, map, models_said, named_model, parts_of, sections_of, subst, sym, ◌∙◌, ◌≡◌, ◌⊎◌}
 use Rattle.ncl_blif.proofs.ModelSizes.{drivers-size}
 use Rattle.ncl_blif.proofs.draft.drafts.Goals as goal
 

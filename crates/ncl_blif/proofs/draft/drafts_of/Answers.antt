@@ -1,6 +1,4 @@
-use Rattle.std.proofs.Common.{◌≡◌, ℕ, List, ◌+◌, ◌-◌, take, drop, ap, inl, inr, ⊎_elim, arith}
-use Rattle.std.proofs.lemmas.Result.{err_from_is_err_and}
-use Rattle.std.proofs.lemmas.List.{take_rest}
+use Rattle.ncl_blif.proofs.Terms.{List, ap, arith, drop, err_from_is_err_and, inl, inr, take, take_rest, ℕ, ⊎_elim, ◌+◌, ◌-◌, ◌≡◌}
 use Rattle.ncl_blif.proofs.Sections.{drafted-more, drafted-broken, section-room}
 use Rattle.ncl_blif.proofs.draft.drafts_of.Goals as goal
 

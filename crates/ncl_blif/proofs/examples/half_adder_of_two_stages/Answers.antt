@@ -1,8 +1,4 @@
-use Rattle.std.proofs.Common.{◌≡◌, ℕ, Bool, true, false, [], ◌∷◌, map, refl, cond, eqb}
-use Rattle.std.proofs.lemmas.List.Elements.{All-from_recursion}
-use Rattle.ncl_blif.specs.declared.model.Cover.{Cover}
-use Rattle.ncl_blif.specs.Meaning.{cover_value, Gives}
-use Rattle.ncl_blif.specs.Examples.{half, rest}
+use Rattle.ncl_blif.proofs.Terms.{All-from_recursion, Bool, Cover, Gives, [], cond, cover_value, eqb, false, half, map, refl, rest, true, ℕ, ◌∷◌, ◌≡◌}
 use Rattle.ncl_blif.proofs.examples.half_adder_of_two_stages.Goals as goal
 
 half_bits : Gives half (true ∷ true ∷ []) (true ∷ false ∷ [])

@@ -1,12 +1,4 @@
-use Rattle.std.proofs.Common.{◌≡◌, ℕ, List, [], ◌∷◌, true, codes, take, refl, sym, ap, ◌∙◌, inl, arith, slice_get}
-use Rattle.std.specs.Prelude.{All}
-use Rattle.std.proofs.lemmas.List.{length-take}
-use Rattle.std.proofs.lemmas.List.Elements.{All-from_recursion}
-use Rattle.ncl_blif.specs.declared.fault.BlifFault.TheVariants.{Syntax, Unsupported, BadRow, MixedCover, TwoDrivers, Undriven, Cycle, NoBits}
-use Rattle.ncl_blif.specs.declared.model.Cover.{Cover}
-use Rattle.ncl_blif.specs.Named.{NamedModel, NamedCover}
-use Rattle.ncl_blif.specs.Model.{reads}
-use Rattle.ncl_blif.specs.Answer.{IsCyclic, IsFaultless, no_bits, undriven, cycle, line, model, width}
+use Rattle.ncl_blif.proofs.Terms.{All, All-from_recursion, BadRow, Cover, Cycle, IsCyclic, IsFaultless, List, MixedCover, NamedCover, NamedModel, NoBits, Syntax, TwoDrivers, Undriven, Unsupported, [], ap, arith, codes, cycle, inl, length-take, line, model, no_bits, reads, refl, slice_get, sym, take, true, undriven, width, ℕ, ◌∙◌, ◌∷◌, ◌≡◌}
 use Rattle.ncl_blif.proofs.examples.refused_texts.Goals as goal
 
 none_before : (models : List NamedModel) → All IsFaultless (take 0 models)

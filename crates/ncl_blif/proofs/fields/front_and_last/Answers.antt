@@ -1,6 +1,4 @@
-use Rattle.std.proofs.Common.{◌∷◌, [], map, sym, ap, ◌∙◌}
-use Rattle.std.proofs.lemmas.List.{map-append}
-use Rattle.ncl_blif.specs.Named.{front_fields, last_field}
+use Rattle.ncl_blif.proofs.Terms.{[], ap, front_fields, last_field, map, map-append, sym, ◌∙◌, ◌∷◌}
 use Rattle.ncl_blif.proofs.Names.{front_fields-end, last_field-end}
 use Rattle.ncl_blif.proofs.fields.front_and_last.Goals as goal
 

@@ -1,7 +1,4 @@
-use Rattle.std.proofs.Common.{◌++◌, length, map, filter, ltb, rules, ap, ◌∙◌}
-use Rattle.std.proofs.lemmas.Iterator.Splits.{YieldsList-from_slice_split}
-use Rattle.std.proofs.lemmas.Iterator.Consumers.{YieldsList-end}
-use Rattle.ncl_base.specs.TextLines.{is_blank}
+use Rattle.ncl_blif.proofs.Terms.{YieldsList-end, YieldsList-from_slice_split, ap, filter, is_blank, length, ltb, map, rules, ◌++◌, ◌∙◌}
 use Rattle.ncl_blif.proofs.fields.push_fields.Goals as goal
 
 pub returns : goal.returns

@@ -1,6 +1,4 @@
-use Rattle.std.proofs.Common.{◌≡◌, ◌<◌, ℕ, false, length, inl, inr, sym, ap, ◌∙◌, arith, eqb, suc, zero}
-use Rattle.std.proofs.lemmas.Bool.{eqb-true}
-use Rattle.ncl_blif.specs.Answer.{HasBits, no_bits, undriven, cycle}
+use Rattle.ncl_blif.proofs.Terms.{HasBits, ap, arith, cycle, eqb, eqb-true, false, inl, inr, length, no_bits, suc, sym, undriven, zero, ℕ, ◌<◌, ◌∙◌, ◌≡◌}
 use Rattle.ncl_blif.proofs.NumberedLaws.{covers_driven}
 use Rattle.ncl_blif.proofs.finish.finish.Goals as goal
 use Rattle.ncl_blif.proofs.finish.finish.Goals.{then-inputs-eq0-via-then-inputs-eq0, then-inputs-eq0-via-else-inputs-eq0+then-is_empty}

@@ -1,5 +1,4 @@
-use Rattle.std.proofs.Common.{◌≡◌, ◌<◌, length, get_or, sym, ap, ◌∙◌, subst}
-use Rattle.ncl_blif.specs.Answer.{IsFirstCycle}
+use Rattle.ncl_blif.proofs.Terms.{IsFirstCycle, ap, get_or, length, subst, sym, ◌<◌, ◌∙◌, ◌≡◌}
 use Rattle.ncl_blif.proofs.NumberedLaws.{twins_differ}
 use Rattle.ncl_blif.proofs.FinishLaws.{graph_is, none_cyclic, first_cyclic, cycle_within}
 use Rattle.ncl_blif.proofs.finish.first_cycle.Goals as goal

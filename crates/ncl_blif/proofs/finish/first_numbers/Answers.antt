@@ -1,5 +1,4 @@
-use Rattle.std.proofs.Common.{arith}
-use Rattle.ncl_base.proofs.Ranges.{range_with_len-more}
+use Rattle.ncl_blif.proofs.Terms.{arith, range_with_len-more}
 use Rattle.ncl_blif.proofs.finish.first_numbers.Goals as goal
 
 pub loop-number-preserved : goal.loop-number-preserved

@@ -1,6 +1,4 @@
-use Rattle.std.proofs.Common.{List, ℕ, Bool, Bor, not, sym, ap, ◌∙◌}
-use Rattle.std.specs.List.{list_any}
-use Rattle.ncl_blif.specs.Numbered.{is_driven}
+use Rattle.ncl_blif.proofs.Terms.{Bool, Bor, List, ap, is_driven, list_any, not, sym, ℕ, ◌∙◌}
 use Rattle.ncl_blif.proofs.Anys.{list_any-map}
 use Rattle.ncl_blif.proofs.finish.has_undriven.Goals as goal
 

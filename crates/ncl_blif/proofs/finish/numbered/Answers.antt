@@ -1,8 +1,4 @@
-use Rattle.std.proofs.Common.{◌≡◌, List, ℕ, Bool, Bor, false, not, map, ap, ◌∙◌, sym, rules}
-use Rattle.std.specs.List.{list_any}
-use Rattle.std.proofs.lemmas.Simd.{map-map}
-use Rattle.std.proofs.lemmas.Bool.{not-false}
-use Rattle.ncl_blif.specs.Numbered.{is_driven, signal_number}
+use Rattle.ncl_blif.proofs.Terms.{Bool, Bor, List, ap, false, is_driven, list_any, map, map-map, not, not-false, rules, signal_number, sym, ℕ, ◌∙◌, ◌≡◌}
 use Rattle.ncl_blif.proofs.Anys.{list_any-map, each_fails}
 use Rattle.ncl_blif.proofs.finish.numbered.Goals as goal
 

@@ -1,6 +1,4 @@
-use Rattle.std.proofs.Common.{◌≡◌, ◌<◌, true, length, get_or, subst, sym, ap, ◌∙◌}
-use Rattle.ncl_blif.specs.Named.{NamedCover}
-use Rattle.ncl_blif.specs.Numbered.{is_driven}
+use Rattle.ncl_blif.proofs.Terms.{NamedCover, ap, get_or, is_driven, length, subst, sym, true, ◌<◌, ◌∙◌, ◌≡◌}
 use Rattle.ncl_blif.proofs.NumberedLaws.{own_driven}
 use Rattle.ncl_blif.proofs.finish.numbered_covers.Goals as goal
 

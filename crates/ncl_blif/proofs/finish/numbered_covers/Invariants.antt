@@ -1,5 +1,4 @@
-use Rattle.std.proofs.Common.{◌≡◌, map, take}
-use Rattle.ncl_blif.specs.Numbered.{numbered_cover, without_rows}
+use Rattle.ncl_blif.proofs.Terms.{map, numbered_cover, take, without_rows, ◌≡◌}
 use Rattle.ncl_blif.proofs.finish.numbered_covers.Given as goal
 
 -- the covers so far, by numbers and without their rows

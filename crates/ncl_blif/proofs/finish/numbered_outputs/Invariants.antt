@@ -1,5 +1,4 @@
-use Rattle.std.proofs.Common.{◌≡◌, map, take}
-use Rattle.ncl_blif.specs.Numbered.{signal_number}
+use Rattle.ncl_blif.proofs.Terms.{map, signal_number, take, ◌≡◌}
 use Rattle.ncl_blif.proofs.finish.numbered_outputs.Given as goal
 
 -- the numbers of the outputs so far

@@ -1,5 +1,4 @@
-use Rattle.std.proofs.Common.{ℕ, List, Bor}
-use Rattle.ncl_blif.specs.Numbered.{signal_number}
+use Rattle.ncl_blif.proofs.Terms.{Bor, List, signal_number, ℕ}
 use Rattle.ncl_base.proofs.Growing.{map_push}
 use Rattle.ncl_blif.proofs.finish.numbers_in.Goals as goal
 

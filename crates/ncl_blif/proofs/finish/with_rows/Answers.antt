@@ -1,10 +1,4 @@
-use Rattle.std.proofs.Common.{◌≡◌, ◌<◌, length, get_or, slice_set, rules, arith, sym, ap, ◌∙◌}
-use Rattle.std.proofs.lemmas.List.{length_push}
-use Rattle.std.proofs.lemmas.Iterator.Adapters.{YieldsList-from_vec}
-use Rattle.std.proofs.lemmas.Iterator.Consumers.{YieldsList-turn}
-use Rattle.ncl_blif.specs.declared.model.Cover.{Cover}
-use Rattle.ncl_blif.specs.Named.{NamedCover}
-use Rattle.ncl_blif.specs.Numbered.{numbered_cover, without_rows}
+use Rattle.ncl_blif.proofs.Terms.{Cover, NamedCover, YieldsList-from_vec, YieldsList-turn, ap, arith, get_or, length, length_push, numbered_cover, rules, slice_set, sym, without_rows, ◌<◌, ◌∙◌, ◌≡◌}
 use Rattle.ncl_blif.proofs.MovedRows.{reached, further_on}
 use Rattle.ncl_blif.proofs.finish.with_rows.Goals as goal
 

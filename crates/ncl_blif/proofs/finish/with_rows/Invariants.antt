@@ -1,5 +1,4 @@
-use Rattle.std.proofs.Common.{◌≡◌, ◌++◌, length, map, drop}
-use Rattle.ncl_blif.specs.Numbered.{numbered_cover, without_rows}
+use Rattle.ncl_blif.proofs.Terms.{drop, length, map, numbered_cover, without_rows, ◌++◌, ◌≡◌}
 use Rattle.ncl_blif.proofs.finish.with_rows.Given as goal
 
 -- the covers so far have their rows, the others have none yet

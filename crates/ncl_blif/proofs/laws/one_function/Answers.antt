@@ -1,5 +1,4 @@
-use Rattle.std.proofs.lemmas.List.Elements.{recursion_from_All}
-use Rattle.ncl_blif.specs.Model.{IsModel}
+use Rattle.ncl_blif.proofs.Terms.{IsModel, recursion_from_All}
 use Rattle.ncl_blif.proofs.Composing.{computes_some, computes_one}
 use Rattle.ncl_blif.proofs.laws.one_function.Goals as goal
 

@@ -1,6 +1,4 @@
-use Rattle.std.proofs.Common.{◌≡◌, ◌+◌, ◌-◌, ◌++◌, ◌∷◌, [], map, take, drop, get_or, sym, ap, ◌∙◌, subst, arith}
-use Rattle.std.proofs.lemmas.List.{length-map, take-map, drop-map}
-use Rattle.ncl_blif.specs.Counted.{AreCounted}
+use Rattle.ncl_blif.proofs.Terms.{AreCounted, [], ap, arith, drop, drop-map, get_or, length-map, map, subst, sym, take, take-map, ◌++◌, ◌+◌, ◌-◌, ◌∙◌, ◌∷◌, ◌≡◌}
 use Rattle.ncl_blif.proofs.Counted.{AreCut, cut-none, cut-fits, cut-more, cut-all, one_counted}
 use Rattle.ncl_blif.proofs.line.counted_lines.Goals as goal
 

@@ -1,8 +1,4 @@
-use Rattle.std.proofs.Common.{◌≡◌, ◌++◌, ◌∷◌, [], length, map, ap, sym, ◌∙◌, cond, append_assoc}
-use Rattle.std.proofs.lemmas.Bool.{eqb-true}
-use Rattle.std.proofs.lemmas.List.{append-nil}
-use Rattle.ncl_base.specs.TextLines.{fields_of}
-use Rattle.ncl_blif.specs.Lines.{is_continued}
+use Rattle.ncl_blif.proofs.Terms.{[], ap, append-nil, append_assoc, cond, eqb-true, fields_of, is_continued, length, map, sym, ◌++◌, ◌∙◌, ◌∷◌, ◌≡◌}
 use Rattle.ncl_blif.proofs.TextLines.{begun-none, begun-more, first-whole, first-end}
 use Rattle.ncl_blif.proofs.line.next_line.Goals as goal
 

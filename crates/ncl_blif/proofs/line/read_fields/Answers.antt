@@ -1,6 +1,5 @@
-use Rattle.std.proofs.Common.{◌≡◌, length, map, sym, ap, subst, arith, length-append}
-use Rattle.std.proofs.lemmas.Bool.{eqb-true}
-use Rattle.std.proofs.lemmas.List.{length-map}
+use Rattle.ncl_blif.proofs.Terms.{ap, arith, eqb-true, length, length-map, map, subst, sym, ◌≡◌}
+use Rattle.std.proofs.Common.{length-append}
 use Rattle.ncl_blif.proofs.Counted.{AreRead, read-empty, read-all}
 use Rattle.ncl_blif.proofs.line.read_fields.Goals as goal
 

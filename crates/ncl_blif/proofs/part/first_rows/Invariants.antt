@@ -1,6 +1,4 @@
-use Rattle.std.proofs.Common.{◌≡◌, ◌+◌, drop}
-use Rattle.std.specs.List.{prefix_len}
-use Rattle.ncl_blif.specs.Parts.{is_row}
+use Rattle.ncl_blif.proofs.Terms.{drop, is_row, prefix_len, ◌+◌, ◌≡◌}
 use Rattle.ncl_blif.proofs.part.first_rows.Given as goal
 
 abbrev pub invariant-loop-count : goal.invariant-loop-count

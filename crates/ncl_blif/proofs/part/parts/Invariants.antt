@@ -1,5 +1,4 @@
-use Rattle.std.proofs.Common.{◌≡◌, ◌++◌, drop}
-use Rattle.ncl_blif.specs.Parts.{parts_of}
+use Rattle.ncl_blif.proofs.Terms.{drop, parts_of, ◌++◌, ◌≡◌}
 use Rattle.ncl_blif.proofs.part.parts.Given as goal
 
 abbrev pub invariant-loop-place : goal.invariant-loop-place

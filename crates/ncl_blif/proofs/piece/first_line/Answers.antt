@@ -1,5 +1,4 @@
-use Rattle.std.proofs.Common.{◌≡◌, ◌≤◌, [], length, drop, subst, arith}
-use Rattle.std.proofs.lemmas.List.{take_rest, drop_all}
+use Rattle.ncl_blif.proofs.Terms.{[], arith, drop, drop_all, length, subst, take_rest, ◌≡◌, ◌≤◌}
 use Rattle.ncl_blif.proofs.TextLines.{lines-first, lines-last}
 use Rattle.ncl_blif.proofs.piece.first_line.Goals as goal
 

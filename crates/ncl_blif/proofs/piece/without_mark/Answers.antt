@@ -1,6 +1,4 @@
-use Rattle.std.proofs.Common.{eqb, sym, ap, ◌∙◌}
-use Rattle.std.proofs.lemmas.Bool.{ne_eqb}
-use Rattle.ncl_blif.specs.Lines.{is_continued}
+use Rattle.ncl_blif.proofs.Terms.{ap, eqb, is_continued, ne_eqb, sym, ◌∙◌}
 use Rattle.ncl_blif.proofs.TextLines.{continued-end}
 use Rattle.ncl_blif.proofs.piece.without_mark.Goals as goal
 

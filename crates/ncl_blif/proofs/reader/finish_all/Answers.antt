@@ -1,11 +1,4 @@
-use Rattle.std.proofs.Common.{◌≡◌, ◌<◌, ◌≤◌, length, get_or, map, rules, arith, sym, ap, ◌∙◌, subst}
-use Rattle.std.specs.Prelude.{All}
-use Rattle.std.proofs.lemmas.List.{length_push, take_all}
-use Rattle.std.proofs.lemmas.List.Elements.{All-more}
-use Rattle.std.proofs.lemmas.Iterator.Adapters.{YieldsList-from_vec}
-use Rattle.std.proofs.lemmas.Iterator.Consumers.{YieldsList-turn, YieldsList-end}
-use Rattle.ncl_blif.specs.Numbered.{numbered_model}
-use Rattle.ncl_blif.specs.Answer.{IsFaultless}
+use Rattle.ncl_blif.proofs.Terms.{All, All-more, IsFaultless, YieldsList-end, YieldsList-from_vec, YieldsList-turn, ap, arith, get_or, length, length_push, map, numbered_model, rules, subst, sym, take_all, ◌<◌, ◌∙◌, ◌≡◌, ◌≤◌}
 use Rattle.ncl_base.proofs.Growing.{map_push}
 use Rattle.ncl_blif.proofs.reader.finish_all.Goals as goal
 

@@ -1,7 +1,4 @@
-use Rattle.std.proofs.Common.{◌≡◌, length, map, take}
-use Rattle.std.specs.Prelude.{All}
-use Rattle.ncl_blif.specs.Numbered.{numbered_model}
-use Rattle.ncl_blif.specs.Answer.{IsFaultless}
+use Rattle.ncl_blif.proofs.Terms.{All, IsFaultless, length, map, numbered_model, take, ◌≡◌}
 use Rattle.ncl_blif.proofs.reader.finish_all.Given as goal
 
 -- the drafts so far have no fault, and are models

@@ -1,5 +1,4 @@
-use Rattle.std.proofs.Common.{◌-◌, drop, sym, ◌∙◌, arith}
-use Rattle.std.proofs.lemmas.List.{length-drop}
+use Rattle.ncl_blif.proofs.Terms.{arith, drop, length-drop, sym, ◌-◌, ◌∙◌}
 use Rattle.ncl_blif.proofs.ReadFacts.{unjoined_short}
 use Rattle.ncl_blif.proofs.reader.first_unjoined.Goals as goal
 

@@ -1,5 +1,4 @@
-use Rattle.std.proofs.Common.{◌≡◌, ◌-◌, drop}
-use Rattle.ncl_blif.specs.Answer.{unjoined_model}
+use Rattle.ncl_blif.proofs.Terms.{drop, unjoined_model, ◌-◌, ◌≡◌}
 use Rattle.ncl_blif.proofs.reader.first_unjoined.Given as goal
 
 -- the drafts from the one before on have the first that doesn't fit

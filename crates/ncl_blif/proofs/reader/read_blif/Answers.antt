@@ -1,11 +1,4 @@
-use Rattle.std.proofs.Common.{◌<◌, ◌≤◌, ℕ, List, length, get_or, map, inl, inr, ⊎_elim, sym, ap, ◌∙◌, subst, arith}
-use Rattle.std.specs.Prelude.{All}
-use Rattle.std.proofs.lemmas.Result.{err_from_is_err_and}
-use Rattle.std.proofs.lemmas.List.Sums.{sum_by_more_le}
-use Rattle.ncl_blif.specs.Named.{NamedModel, size_of_named}
-use Rattle.ncl_blif.specs.Numbered.{numbered_model}
-use Rattle.ncl_blif.specs.Model.{AreModels}
-use Rattle.ncl_blif.specs.Answer.{models_said, IsFaultless, IsFirstModelFault, unjoined_model, line, model, width}
+use Rattle.ncl_blif.proofs.Terms.{All, AreModels, IsFaultless, IsFirstModelFault, List, NamedModel, ap, arith, err_from_is_err_and, get_or, inl, inr, length, line, map, model, models_said, numbered_model, size_of_named, subst, sum_by_more_le, sym, unjoined_model, width, ℕ, ⊎_elim, ◌<◌, ◌∙◌, ◌≤◌}
 use Rattle.ncl_blif.proofs.Counts.{models_few}
 use Rattle.ncl_blif.proofs.ModelSizes.{models_said-size}
 use Rattle.ncl_blif.proofs.ReadFacts.{AreModels-said, covers_sized}

@@ -1,7 +1,4 @@
-use Rattle.std.proofs.Common.{◌≡◌, map, take, drop}
-use Rattle.std.specs.List.{list_all}
-use Rattle.ncl_blif.specs.Named.{lit_of}
-use Rattle.ncl_blif.specs.LineFaults.{is_literal}
+use Rattle.ncl_blif.proofs.Terms.{drop, is_literal, list_all, lit_of, map, take, ◌≡◌}
 use Rattle.ncl_blif.proofs.row.read_pattern.Given as goal
 
 abbrev pub invariant-loop-byte : goal.invariant-loop-byte

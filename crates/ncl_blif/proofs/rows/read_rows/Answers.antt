@@ -1,5 +1,4 @@
-use Rattle.std.proofs.Common.{Some, sym, ◌∙◌, ap, inl, inr, ⊎_elim, arith}
-use Rattle.std.proofs.lemmas.Result.{err_from_is_err_and}
+use Rattle.ncl_blif.proofs.Terms.{Some, ap, arith, err_from_is_err_and, inl, inr, sym, ⊎_elim, ◌∙◌}
 use Rattle.ncl_blif.proofs.RowSteps.{read-more, read-bad, read-mixed, rows_fault-is, bits-same, bits-differ}
 use Rattle.ncl_blif.proofs.rows.read_rows.Goals as goal
 

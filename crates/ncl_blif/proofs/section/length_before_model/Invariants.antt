@@ -1,6 +1,4 @@
-use Rattle.std.proofs.Common.{◌≡◌, ◌+◌, drop, not}
-use Rattle.std.specs.List.{prefix_len}
-use Rattle.ncl_blif.specs.Parts.{begins_model}
+use Rattle.ncl_blif.proofs.Terms.{begins_model, drop, not, prefix_len, ◌+◌, ◌≡◌}
 use Rattle.ncl_blif.proofs.section.length_before_model.Given as goal
 
 abbrev pub invariant-loop-count : goal.invariant-loop-count

@@ -1,7 +1,4 @@
-use Rattle.std.proofs.Common.{◌+◌, ap, ◌∙◌, not}
-use Rattle.std.proofs.lemmas.List.{take_rest}
-use Rattle.std.specs.List.{prefix_len}
-use Rattle.ncl_blif.specs.Parts.{begins_model}
+use Rattle.ncl_blif.proofs.Terms.{ap, begins_model, not, prefix_len, take_rest, ◌+◌, ◌∙◌}
 use Rattle.ncl_blif.proofs.Sections.{section-cut}
 use Rattle.ncl_blif.proofs.section.section_length.Goals as goal
 

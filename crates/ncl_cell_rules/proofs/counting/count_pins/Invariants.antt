@@ -1,5 +1,4 @@
-use Rattle.std.proofs.Common.{◌≡◌, ℕ, ◌+◌, ◌<◌, length, take, get_or}
-use Rattle.ncl_cell_rules.specs.Rules.{pins_with}
+use Rattle.ncl_cell_rules.proofs.Terms.{get_or, length, pins_with, take, ℕ, ◌+◌, ◌<◌, ◌≡◌}
 use Rattle.ncl_cell_rules.proofs.counting.count_pins.Given as goal
 
 -- each net is counted once for each of the pins so far that have it

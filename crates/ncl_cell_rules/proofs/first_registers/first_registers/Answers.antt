@@ -1,8 +1,4 @@
-use Rattle.std.proofs.Common.{◌≡◌, ◌+◌, None, Some, get_or, set, sym, ap, ◌∙◌, subst, arith}
-use Rattle.std.specs.Option.{option_or}
-use Rattle.std.proofs.lemmas.List.{get_or_read}
-use Rattle.ncl_cell_rules.specs.Origin.{CellAt, OnPin, B}
-use Rattle.ncl_base.proofs.Members.{Contains-from_slice_get}
+use Rattle.ncl_cell_rules.proofs.Terms.{B, CellAt, Contains-from_slice_get, None, OnPin, Some, ap, arith, get_or, get_or_read, option_or, set, subst, sym, ◌+◌, ◌∙◌, ◌≡◌}
 use Rattle.ncl_cell_rules.proofs.TableSteps.{cell_read}
 use Rattle.ncl_cell_rules.proofs.PinNumbers.{no_net, register_on, register_inside}
 use Rattle.ncl_cell_rules.proofs.FirstRegisters.{AreFirstsOf, firsts_same, firsts_put, other_sort, bank_of_pin, is_of_own_bank}

@@ -1,8 +1,4 @@
-use Rattle.std.proofs.Common.{arith}
-use Rattle.std.proofs.lemmas.Grind.{common_steps}
-use Rattle.ncl_netlist.specs.declared.ids.NetId.{NetId}
-use Rattle.ncl_base.proofs.Growing.{filter_map-more}
-use Rattle.ncl_cell_rules.specs.GateGraph.{driver_at}
+use Rattle.ncl_cell_rules.proofs.Terms.{NetId, arith, common_steps, driver_at, filter_map-more}
 use Rattle.ncl_cell_rules.proofs.PinNumbers.{no_net}
 use Rattle.ncl_cell_rules.proofs.gate_graph.drivers_of.Goals as goal
 use Rattle.ncl_cell_rules.proofs.gate_graph.drivers_of.Goals.{in-Some+in_ok-push, in_default}

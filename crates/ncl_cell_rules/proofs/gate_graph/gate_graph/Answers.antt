@@ -1,7 +1,4 @@
-use Rattle.std.proofs.Common.{map, length, sym, ap, ◌∙◌, subst, arith}
-use Rattle.std.proofs.lemmas.List.{take_all}
-use Rattle.ncl_graph.specs.Graph.{IsGraph}
-use Rattle.ncl_cell_rules.specs.GateGraph.{arcs}
+use Rattle.ncl_cell_rules.proofs.Terms.{IsGraph, ap, arcs, arith, length, map, subst, sym, take_all, ◌∙◌}
 use Rattle.ncl_cell_rules.proofs.GraphOfGates.{IsGraph-gate_graph}
 use Rattle.ncl_cell_rules.proofs.gate_graph.gate_graph.Goals as goal
 

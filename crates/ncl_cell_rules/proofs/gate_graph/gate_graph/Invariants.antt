@@ -1,5 +1,4 @@
-use Rattle.std.proofs.Common.{◌≡◌, map, take}
-use Rattle.ncl_cell_rules.specs.GateGraph.{arcs}
+use Rattle.ncl_cell_rules.proofs.Terms.{arcs, map, take, ◌≡◌}
 use Rattle.ncl_cell_rules.proofs.gate_graph.gate_graph.Given as goal
 
 abbrev pub invariant-loop-cell : goal.invariant-loop-cell

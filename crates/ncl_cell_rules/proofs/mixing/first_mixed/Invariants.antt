@@ -1,6 +1,4 @@
-use Rattle.std.proofs.Common.{ℕ, ◌<◌}
-use Rattle.ncl_cell_rules.specs.Rules.{IsUnmixed}
-use Rattle.ncl_cell_rules.specs.Free.{AtCell}
+use Rattle.ncl_cell_rules.proofs.Terms.{AtCell, IsUnmixed, ℕ, ◌<◌}
 use Rattle.ncl_cell_rules.proofs.mixing.first_mixed.Given as goal
 
 abbrev pub invariant-loop-place : goal.invariant-loop-place

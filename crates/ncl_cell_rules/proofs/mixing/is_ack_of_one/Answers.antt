@@ -1,5 +1,4 @@
-use Rattle.std.proofs.Common.{◌≡◌, false, get_or, refl, sym, ap, ◌∙◌}
-use Rattle.std.proofs.lemmas.Bool.{both_ways}
+use Rattle.ncl_cell_rules.proofs.Terms.{ap, both_ways, false, get_or, refl, sym, ◌∙◌, ◌≡◌}
 use Rattle.ncl_cell_rules.proofs.BitTests.{acks_behind, acks_by_behind, same_behind, behind_within}
 use Rattle.ncl_cell_rules.proofs.DataBanks.{mark_of_bank, bank_of_mark}
 use Rattle.ncl_cell_rules.proofs.mixing.is_ack_of_one.Goals as goal

@@ -1,6 +1,4 @@
-use Rattle.std.proofs.Common.{length, get_or, sym, ap, ◌∙◌, arith}
-use Rattle.ncl_cell_rules.specs.Origin.{OnPin, A, B}
-use Rattle.ncl_cell_rules.specs.Rules.{IsFirstOfBank}
+use Rattle.ncl_cell_rules.proofs.Terms.{A, B, IsFirstOfBank, OnPin, ap, arith, get_or, length, sym, ◌∙◌}
 use Rattle.ncl_cell_rules.proofs.PinNumbers.{no_net, register_on, register_inside, register_pins}
 use Rattle.ncl_cell_rules.proofs.RuleTests.{same_entries_of}
 use Rattle.ncl_cell_rules.proofs.FirstRegisters.{own_first_within, own_first_read, own_first_there}

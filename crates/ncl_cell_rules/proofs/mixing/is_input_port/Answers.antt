@@ -1,5 +1,4 @@
-use Rattle.std.proofs.Common.{inl, inr, sym, ◌∙◌}
-use Rattle.std.proofs.lemmas.Bool.{cases_Bool}
+use Rattle.ncl_cell_rules.proofs.Terms.{cases_Bool, inl, inr, sym, ◌∙◌}
 use Rattle.ncl_cell_rules.proofs.SourceTests.{none_from, some_from, port_of_none, none_of_port}
 use Rattle.ncl_cell_rules.proofs.mixing.is_input_port.Goals as goal
 

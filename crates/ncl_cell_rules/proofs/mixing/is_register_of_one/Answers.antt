@@ -1,6 +1,4 @@
-use Rattle.std.proofs.Common.{get_or, arith}
-use Rattle.std.proofs.lemmas.Bool.{and_from, and_parts}
-use Rattle.ncl_cell_rules.specs.Origin.{OnPin, A, B, RST}
+use Rattle.ncl_cell_rules.proofs.Terms.{A, B, OnPin, RST, and_from, and_parts, arith, get_or}
 use Rattle.ncl_cell_rules.proofs.PinNumbers.{no_net, register_on}
 use Rattle.ncl_cell_rules.proofs.RuleTests.{register_of_first, first_of_register}
 use Rattle.ncl_cell_rules.proofs.mixing.is_register_of_one.Goals as goal

@@ -1,7 +1,4 @@
-use Rattle.std.proofs.Common.{◌≡◌, ◌⊎◌, inl, inr, refl, sym, subst}
-use Rattle.ncl_gates.specs.declared.kind.Kind.{Kind}
-use Rattle.ncl_gates.specs.declared.kind.Kind.TheVariants.{Th22, Th33, Th44}
-use Rattle.ncl_cell_rules.specs.Origin.{IsTreeKind, th22, th33, th44}
+use Rattle.ncl_cell_rules.proofs.Terms.{IsTreeKind, Kind, Th22, Th33, Th44, inl, inr, refl, subst, sym, th22, th33, th44, ◌≡◌, ◌⊎◌}
 use Rattle.ncl_cell_rules.proofs.mixing.is_tree_kind.Goals as goal
 
 pub returns-in-Th22 : goal.returns-in-Th22

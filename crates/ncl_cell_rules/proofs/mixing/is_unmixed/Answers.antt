@@ -1,7 +1,4 @@
-use Rattle.std.proofs.Common.{◌≡◌, sym, ap, ◌∙◌}
-use Rattle.std.proofs.lemmas.Bool.{both_ways}
-use Rattle.ncl_gates.specs.declared.cell_kind.CellKind.TheVariants.{Gate, Ack}
-use Rattle.ncl_gates.specs.Cell.{is_register}
+use Rattle.ncl_cell_rules.proofs.Terms.{Ack, Gate, ap, both_ways, is_register, sym, ◌∙◌, ◌≡◌}
 use Rattle.ncl_cell_rules.proofs.mixing.is_unmixed.Goals as goal
 
 pub returns-in-Ack : goal.returns-in-Ack

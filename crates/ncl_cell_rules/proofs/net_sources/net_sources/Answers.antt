@@ -1,12 +1,4 @@
-use Rattle.std.proofs.Common.{◌≡◌, ◌<◌, ◌+◌, [], ℕ, length, get_or, take, drop, set, replicate, sym, ap, ◌∙◌, subst, arith}
-use Rattle.std.proofs.lemmas.List.{take_all, take_more}
-use Rattle.ncl_base.proofs.Growing.{cut_at}
-use Rattle.ncl_base.proofs.Members.{Contains-from_slice_get}
-use Rattle.ncl_netlist.specs.declared.ids.NetId.{NetId}
-use Rattle.ncl_cell_rules.specs.declared.source.Source.TheVariants.{Port}
-use Rattle.ncl_cell_rules.specs.Origin.{CellAt}
-use Rattle.ncl_cell_rules.specs.Sources.{IsSourceOf, source_at}
-use Rattle.ncl_cell_rules.specs.CellOrder.{AreSourcesOf}
+use Rattle.ncl_cell_rules.proofs.Terms.{AreSourcesOf, CellAt, Contains-from_slice_get, IsSourceOf, NetId, Port, [], ap, arith, cut_at, drop, get_or, length, replicate, set, source_at, subst, sym, take, take_all, take_more, ℕ, ◌+◌, ◌<◌, ◌∙◌, ◌≡◌}
 use Rattle.ncl_cell_rules.proofs.TableSteps.{cell_of_order}
 use Rattle.ncl_cell_rules.proofs.PinNumbers.{output_within}
 use Rattle.ncl_cell_rules.proofs.OrderSteps.{sources_begin, sources_more, pins_known, sources_whole, new_at}

@@ -1,5 +1,4 @@
-use Rattle.std.proofs.Common.{take}
-use Rattle.ncl_cell_rules.specs.CellOrder.{AreSourcesOf}
+use Rattle.ncl_cell_rules.proofs.Terms.{AreSourcesOf, take}
 use Rattle.ncl_cell_rules.proofs.net_sources.net_sources.Given as goal
 
 abbrev pub invariant-loop-place : goal.invariant-loop-place

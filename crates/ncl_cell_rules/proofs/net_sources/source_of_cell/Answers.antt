@@ -1,7 +1,4 @@
-use Rattle.std.proofs.Common.{◌≡◌, true, get_or, inl, inr, ap, subst, arith}
-use Rattle.ncl_gates.specs.Cell.{is_register}
-use Rattle.ncl_cell_rules.specs.Origin.{OnPin, B}
-use Rattle.ncl_cell_rules.specs.Sources.{IsSummary, OfNets}
+use Rattle.ncl_cell_rules.proofs.Terms.{B, IsSummary, OfNets, OnPin, ap, arith, get_or, inl, inr, is_register, subst, true, ◌≡◌}
 use Rattle.ncl_cell_rules.proofs.PinNumbers.{no_net, register_pins, on_pin_of}
 use Rattle.ncl_cell_rules.proofs.SourceSteps.{gate_source, register_source, ack_source}
 use Rattle.ncl_cell_rules.proofs.net_sources.source_of_cell.Goals as goal

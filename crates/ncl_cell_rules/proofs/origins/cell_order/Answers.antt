@@ -1,9 +1,4 @@
-use Rattle.std.proofs.Common.{length, sym, ap, ◌∙◌, subst}
-use Rattle.std.specs.List.{range_with_len}
-use Rattle.std.proofs.lemmas.Bool.{OnTrue_at}
-use Rattle.ncl_graph.specs.Graph.{IsOrder, IsOnCycle}
-use Rattle.ncl_graph.proofs.Orders.{order_excludes_cycles}
-use Rattle.ncl_cell_rules.specs.GateGraph.{gate_graph}
+use Rattle.ncl_cell_rules.proofs.Terms.{IsOnCycle, IsOrder, OnTrue_at, ap, gate_graph, length, order_excludes_cycles, range_with_len, subst, sym, ◌∙◌}
 use Rattle.ncl_cell_rules.proofs.InOrder.{order_as_they_stand}
 use Rattle.ncl_cell_rules.proofs.OrderSteps.{order_of_cells, off_cycles, on_cycle, cell_on_cycle}
 use Rattle.ncl_cell_rules.proofs.origins.cell_order.Goals as goal

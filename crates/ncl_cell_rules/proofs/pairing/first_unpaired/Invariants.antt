@@ -1,6 +1,4 @@
-use Rattle.std.proofs.Common.{ℕ, ◌<◌}
-use Rattle.ncl_cell_rules.specs.Rules.{IsPaired}
-use Rattle.ncl_cell_rules.specs.Free.{AtCell}
+use Rattle.ncl_cell_rules.proofs.Terms.{AtCell, IsPaired, ℕ, ◌<◌}
 use Rattle.ncl_cell_rules.proofs.pairing.first_unpaired.Given as goal
 
 abbrev pub invariant-loop-place : goal.invariant-loop-place

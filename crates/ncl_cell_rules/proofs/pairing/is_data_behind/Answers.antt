@@ -1,7 +1,4 @@
-use Rattle.std.proofs.Common.{sym, ap, ◌∙◌}
-use Rattle.ncl_base.proofs.Members.{Contains-from_slice_get, slice_get-from_Contains}
-use Rattle.ncl_gates.specs.Cell.{is_data_register}
-use Rattle.ncl_netlist.specs.declared.cell.Cell.{Cell}
+use Rattle.ncl_cell_rules.proofs.Terms.{Cell, Contains-from_slice_get, ap, is_data_register, slice_get-from_Contains, sym, ◌∙◌}
 use Rattle.ncl_cell_rules.proofs.Drivers.{same_driver}
 use Rattle.ncl_cell_rules.proofs.TableSteps.{driver_within, driver_is}
 use Rattle.ncl_cell_rules.proofs.pairing.is_data_behind.Goals as goal

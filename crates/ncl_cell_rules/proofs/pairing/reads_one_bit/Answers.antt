@@ -1,9 +1,4 @@
-use Rattle.std.proofs.Common.{◌≡◌, Bool, true, false, not, ◌||◌, List, get_or, refl, ap, sym, ◌∙◌, subst, arith}
-use Rattle.std.proofs.lemmas.Bool.{and_parts, both_ways, eq-eqb, false_from_ne_true}
-use Rattle.ncl_base.proofs.Tests.{same_unless}
-use Rattle.ncl_netlist.specs.declared.ids.NetId.{NetId}
-use Rattle.ncl_cell_rules.specs.Origin.{OnPin, A, B}
-use Rattle.ncl_cell_rules.specs.GateGraph.{IsDataBehind}
+use Rattle.ncl_cell_rules.proofs.Terms.{A, B, Bool, IsDataBehind, List, NetId, OnPin, and_parts, ap, arith, both_ways, eq-eqb, false, false_from_ne_true, get_or, not, refl, same_unless, subst, sym, true, ◌||◌, ◌∙◌, ◌≡◌}
 use Rattle.ncl_cell_rules.proofs.PinNumbers.{no_net, ack_on}
 use Rattle.ncl_cell_rules.proofs.BitTests.{behind_pin, one_bit_of, banks_are_one, cells_differ, data_behind, data_is_one}
 use Rattle.ncl_cell_rules.proofs.pairing.reads_one_bit.Goals as goal

@@ -1,9 +1,4 @@
-use Rattle.std.proofs.Common.{◌≡◌, length, sym, ap, ◌∙◌, subst, arith}
-use Rattle.std.proofs.lemmas.Bool.{both_ways}
-use Rattle.ncl_gates.specs.Cell.{is_register}
-use Rattle.ncl_netlist.specs.declared.cell.Cell.{Cell}
-use Rattle.ncl_base.proofs.Members.{Contains-from_slice_get}
-use Rattle.ncl_cell_rules.specs.Origin.{CellAt}
+use Rattle.ncl_cell_rules.proofs.Terms.{Cell, CellAt, Contains-from_slice_get, ap, arith, both_ways, is_register, length, subst, sym, ◌∙◌, ◌≡◌}
 use Rattle.ncl_cell_rules.proofs.TableSteps.{driver_within, driver_is}
 use Rattle.ncl_cell_rules.proofs.PinNumbers.{register_pins, on_pin_of}
 use Rattle.ncl_cell_rules.proofs.pairing.register_behind.Goals as goal

@@ -1,6 +1,4 @@
-use Rattle.std.proofs.Common.{length, ap, arith, below_more}
-use Rattle.std.proofs.lemmas.Option.{slice_get_within}
-use Rattle.ncl_cell_rules.specs.Rules.{IsReadPort}
+use Rattle.ncl_cell_rules.proofs.Terms.{IsReadPort, ap, arith, below_more, length, slice_get_within}
 use Rattle.ncl_cell_rules.proofs.PortReads.{port_read, read_port, unread_port, no_input}
 use Rattle.ncl_cell_rules.proofs.ports_read.first_unread.Goals as goal
 use Rattle.ncl_cell_rules.proofs.ports_read.first_unread.Goals.{else-not-port-via-then-not-port+else-not-reads-net, else-not-port-via-else-not-port}

@@ -1,5 +1,4 @@
-use Rattle.std.proofs.Common.{ℕ, ◌<◌}
-use Rattle.ncl_cell_rules.specs.Rules.{IsReadPort}
+use Rattle.ncl_cell_rules.proofs.Terms.{IsReadPort, ℕ, ◌<◌}
 use Rattle.ncl_cell_rules.proofs.ports_read.first_unread.Given as goal
 
 abbrev pub invariant-loop-net : goal.invariant-loop-net

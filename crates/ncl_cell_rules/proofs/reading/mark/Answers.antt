@@ -1,9 +1,5 @@
-use Rattle.std.proofs.Common.{◌||◌, true, false, get_or, sym, ap, ◌∙◌, arith}
-use Rattle.std.proofs.Math.Bool.{or-false}
-use Rattle.std.specs.List.{list_any}
-use Rattle.std.proofs.lemmas.List.{take_all}
+use Rattle.ncl_cell_rules.proofs.Terms.{NetId, ap, arith, false, get_or, list_any, or-false, sym, take_all, true, ◌||◌, ◌∙◌}
 use Rattle.std.proofs.Math.ListN.{length-set}
-use Rattle.ncl_netlist.specs.declared.ids.NetId.{NetId}
 use Rattle.ncl_cell_rules.proofs.ReadTables.{has_pin, marked_more}
 use Rattle.ncl_cell_rules.proofs.reading.mark.Goals as goal
 

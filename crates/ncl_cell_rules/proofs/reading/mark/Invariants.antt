@@ -1,5 +1,4 @@
-use Rattle.std.proofs.Common.{◌≡◌, ℕ, ◌<◌, ◌||◌, false, length, take, get_or}
-use Rattle.std.specs.List.{list_any}
+use Rattle.ncl_cell_rules.proofs.Terms.{false, get_or, length, list_any, take, ℕ, ◌<◌, ◌||◌, ◌≡◌}
 use Rattle.ncl_cell_rules.proofs.ReadTables.{has_pin}
 use Rattle.ncl_cell_rules.proofs.reading.mark.Given as goal
 

@@ -1,7 +1,4 @@
-use Rattle.std.proofs.Common.{get_or, sym, subst}
-use Rattle.std.proofs.lemmas.List.{take_more}
-use Rattle.ncl_netlist.specs.declared.ids.NetId.{NetId}
-use Rattle.ncl_cell_rules.specs.Sources.{IsSummary, OfNets}
+use Rattle.ncl_cell_rules.proofs.Terms.{IsSummary, NetId, OfNets, get_or, subst, sym, take_more}
 use Rattle.ncl_cell_rules.proofs.SourceSteps.{joined}
 use Rattle.ncl_cell_rules.proofs.source.source_of_nets.Goals as goal
 

@@ -1,5 +1,4 @@
-use Rattle.std.proofs.Common.{take}
-use Rattle.ncl_cell_rules.specs.Sources.{IsSummary, OfNets}
+use Rattle.ncl_cell_rules.proofs.Terms.{IsSummary, OfNets, take}
 use Rattle.ncl_cell_rules.proofs.source.source_of_nets.Given as goal
 
 abbrev pub invariant-loop-k : goal.invariant-loop-k

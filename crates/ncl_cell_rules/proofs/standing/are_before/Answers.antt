@@ -1,9 +1,4 @@
-use Rattle.std.proofs.Common.{sym, subst}
-use Rattle.std.specs.Prelude.{All}
-use Rattle.std.proofs.lemmas.Bool.{OnTrue_at}
-use Rattle.std.proofs.lemmas.List.{take_more, take_all}
-use Rattle.std.proofs.lemmas.List.Elements.{All-push}
-use Rattle.ncl_cell_rules.specs.CellOrder.{IsDrivenBefore}
+use Rattle.ncl_cell_rules.proofs.Terms.{All, All-push, IsDrivenBefore, OnTrue_at, subst, sym, take_all, take_more}
 use Rattle.ncl_cell_rules.proofs.PinNumbers.{no_net}
 use Rattle.ncl_cell_rules.proofs.standing.are_before.Goals as goal
 

@@ -1,6 +1,4 @@
-use Rattle.std.proofs.Common.{take}
-use Rattle.std.specs.Prelude.{All}
-use Rattle.ncl_cell_rules.specs.CellOrder.{IsDrivenBefore}
+use Rattle.ncl_cell_rules.proofs.Terms.{All, IsDrivenBefore, take}
 use Rattle.ncl_cell_rules.proofs.standing.are_before.Given as goal
 
 -- the nets so far are driven before the place

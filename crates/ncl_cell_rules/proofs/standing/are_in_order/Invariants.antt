@@ -1,5 +1,4 @@
-use Rattle.std.proofs.Common.{ℕ, ◌<◌}
-use Rattle.ncl_cell_rules.specs.CellOrder.{StandsLater}
+use Rattle.ncl_cell_rules.proofs.Terms.{StandsLater, ℕ, ◌<◌}
 use Rattle.ncl_cell_rules.proofs.standing.are_in_order.Given as goal
 
 -- the cells so far stand so

@@ -1,5 +1,4 @@
-use Rattle.std.proofs.Common.{arith}
-use Rattle.ncl_base.proofs.Ranges.{range_with_len-more}
+use Rattle.ncl_cell_rules.proofs.Terms.{arith, range_with_len-more}
 use Rattle.ncl_cell_rules.proofs.standing.first_places.Goals as goal
 
 pub loop-place-preserved : goal.loop-place-preserved

@@ -1,5 +1,4 @@
-use Rattle.std.proofs.Common.{◌≡◌}
-use Rattle.std.specs.List.{range_with_len}
+use Rattle.ncl_cell_rules.proofs.Terms.{range_with_len, ◌≡◌}
 use Rattle.ncl_cell_rules.proofs.standing.first_places.Given as goal
 
 -- the places so far

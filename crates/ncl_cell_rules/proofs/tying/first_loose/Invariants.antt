@@ -1,6 +1,4 @@
-use Rattle.std.proofs.Common.{ℕ, ◌<◌}
-use Rattle.ncl_cell_rules.specs.Rules.{IsTied}
-use Rattle.ncl_cell_rules.specs.Free.{AtCell}
+use Rattle.ncl_cell_rules.proofs.Terms.{AtCell, IsTied, ℕ, ◌<◌}
 use Rattle.ncl_cell_rules.proofs.tying.first_loose.Given as goal
 
 abbrev pub invariant-loop-place : goal.invariant-loop-place

@@ -1,6 +1,4 @@
-use Rattle.std.proofs.Common.{inl, inr, refl, sym, ap, is_some, ◌∙◌, subst}
-use Rattle.std.proofs.lemmas.Bool.{both_ways}
-use Rattle.ncl_cell_rules.specs.Sources.{IsSourceOf}
+use Rattle.ncl_cell_rules.proofs.Terms.{IsSourceOf, ap, both_ways, inl, inr, is_some, refl, subst, sym, ◌∙◌}
 use Rattle.ncl_cell_rules.proofs.PinNumbers.{output_within}
 use Rattle.ncl_cell_rules.proofs.TreeTests.{ack_named, tree_sort, read_by_gate, marked_by_gate, request_by_first, first_by_request}
 use Rattle.ncl_cell_rules.proofs.tying.is_tied.Goals as goal

@@ -1,8 +1,4 @@
-use Rattle.std.proofs.Common.{sym, subst}
-use Rattle.std.specs.Prelude.{IfOk}
-use Rattle.std.proofs.lemmas.Result.{IfOk-weaker}
-use Rattle.ncl_cells.specs.declared.small.Op.TheVariants.{Majority, Choose}
-use Rattle.ncl_cells.specs.Adding.{AddsOp}
+use Rattle.ncl_cells.proofs.Terms.{AddsOp, Choose, IfOk, IfOk-weaker, Majority, subst, sym}
 use Rattle.ncl_cells.proofs.AddedOps.{put_op, AddsOp-majority_by_pairs}
 use Rattle.ncl_cells.proofs.adding.add.Goals as goal
 

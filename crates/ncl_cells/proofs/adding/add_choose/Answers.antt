@@ -1,6 +1,4 @@
-use Rattle.std.proofs.lemmas.Result.{IfOk-weaker}
-use Rattle.ncl_cells.specs.declared.small.Op.TheVariants.{Differ, Choose}
-use Rattle.ncl_cells.specs.Adding.{AddsOp}
+use Rattle.ncl_cells.proofs.Terms.{AddsOp, Choose, Differ, IfOk-weaker}
 use Rattle.ncl_cells.proofs.AddedOps.{AddsOp-choose_by_pairs}
 use Rattle.ncl_cells.proofs.adding.add_choose.Goals as goal
 

@@ -1,8 +1,4 @@
-use Rattle.std.proofs.Common.{◌≡◌, length, refl, sym, subst, ◌∙◌, Some}
-use Rattle.std.specs.Prelude.{slice_get}
-use Rattle.std.proofs.lemmas.Option.{slice_get_read}
-use Rattle.ncl_network.specs.declared.network.SignalSource.TheVariants.{Node as FromNode}
-use Rattle.ncl_cells.specs.Cones.{IsKnown}
+use Rattle.ncl_cells.proofs.Terms.{FromNode, IsKnown, Some, length, refl, slice_get, slice_get_read, subst, sym, ◌∙◌, ◌≡◌}
 use Rattle.ncl_cells.proofs.Cones.{IsKnown-push}
 use Rattle.ncl_cells.proofs.cone.learn.Goals as goal
 

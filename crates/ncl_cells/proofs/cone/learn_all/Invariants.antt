@@ -1,6 +1,4 @@
-use Rattle.std.proofs.Common.{Bool}
-use Rattle.ncl_network.specs.declared.network.SignalSource.{SignalSource}
-use Rattle.ncl_cells.specs.Cones.{IsKnown, Respects}
+use Rattle.ncl_cells.proofs.Terms.{Bool, IsKnown, Respects, SignalSource}
 use Rattle.ncl_cells.proofs.cone.learn_all.Given as goal
 
 abbrev pub invariant-loop-place : goal.invariant-loop-place

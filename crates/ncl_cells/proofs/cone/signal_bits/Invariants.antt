@@ -1,6 +1,4 @@
-use Rattle.std.proofs.Common.{◌≡◌, Bool, map, take}
-use Rattle.ncl_network.specs.declared.network.SignalSource.{SignalSource}
-use Rattle.ncl_cells.specs.Cones.{IsKnown, signal_in}
+use Rattle.ncl_cells.proofs.Terms.{Bool, IsKnown, SignalSource, map, signal_in, take, ◌≡◌}
 use Rattle.ncl_cells.proofs.cone.signal_bits.Given as goal
 
 abbrev pub invariant-loop-signal : goal.invariant-loop-signal

@@ -1,6 +1,4 @@
-use Rattle.std.proofs.Common.{◌≡◌, ◌*◌, ◌≤◌, length, take}
-use Rattle.std.specs.Prelude.{sum_by}
-use Rattle.ncl_decomp.specs.Split.{cost_of_inputs}
+use Rattle.ncl_cells.proofs.Terms.{cost_of_inputs, length, sum_by, take, ◌*◌, ◌≡◌, ◌≤◌}
 use Rattle.ncl_cells.proofs.costs.cost.Given as goal
 
 abbrev pub invariant-loop-node : goal.invariant-loop-node

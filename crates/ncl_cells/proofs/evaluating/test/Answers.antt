@@ -1,7 +1,4 @@
-use borrow.Author.Count.{below_more}
-use Rattle.std.proofs.Common.{subst, arith}
-use Rattle.ncl_decomp.specs.Words.{word_of}
-use Rattle.ncl_cells.specs.Cones.{ComputesAt}
+use Rattle.ncl_cells.proofs.Terms.{ComputesAt, arith, below_more, subst, word_of}
 use Rattle.ncl_cells.proofs.Cones.{Computes-all}
 use Rattle.ncl_cells.proofs.evaluating.test.Goals as goal
 

@@ -1,6 +1,4 @@
-use Rattle.std.proofs.Common.{ℕ, ◌<◌}
-use Rattle.ncl_decomp.specs.Words.{word_of}
-use Rattle.ncl_cells.specs.Cones.{ComputesAt}
+use Rattle.ncl_cells.proofs.Terms.{ComputesAt, word_of, ℕ, ◌<◌}
 use Rattle.ncl_cells.proofs.evaluating.test.Given as goal
 
 abbrev pub invariant-loop-number : goal.invariant-loop-number

@@ -1,6 +1,4 @@
-use Rattle.std.proofs.Common.{sym, ap, subst, ◌∙◌}
-use Rattle.ncl_cells.specs.Cones.{IsKnown}
-use Rattle.ncl_cells.specs.Plans.{plan_value}
+use Rattle.ncl_cells.proofs.Terms.{IsKnown, ap, plan_value, subst, sym, ◌∙◌}
 use Rattle.ncl_cells.proofs.Cones.{same_bits}
 use Rattle.ncl_cells.proofs.evaluating.test_word.Goals as goal
 

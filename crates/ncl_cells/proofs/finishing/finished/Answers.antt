@@ -1,5 +1,4 @@
-use Rattle.ncl_decomp.proofs.Whole.{narrow_left}
-use Rattle.std.proofs.Common.{arith}
+use Rattle.ncl_cells.proofs.Terms.{arith, narrow_left}
 use Rattle.ncl_cells.proofs.finishing.finished.Goals as goal
 
 pub returns-clause-network : goal.returns-clause-network

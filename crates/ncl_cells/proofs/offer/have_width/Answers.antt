@@ -1,8 +1,4 @@
-use Rattle.std.proofs.Common.{◌≡◌, List, length, take, get_or, sym, ap, subst, ◌∙◌, arith}
-use Rattle.std.specs.Prelude.{All}
-use Rattle.std.proofs.lemmas.List.{take_more, take_all}
-use Rattle.std.proofs.lemmas.List.Elements.{All-push}
-use Rattle.ncl_blif.specs.declared.model.Lit.{Lit}
+use Rattle.ncl_cells.proofs.Terms.{All, All-push, List, Lit, ap, arith, get_or, length, subst, sym, take, take_all, take_more, ◌∙◌, ◌≡◌}
 use Rattle.ncl_cells.proofs.offer.have_width.Goals as goal
 
 pub loop-row-preserved : goal.loop-row-preserved

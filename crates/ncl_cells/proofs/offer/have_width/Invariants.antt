@@ -1,5 +1,4 @@
-use Rattle.std.proofs.Common.{◌≡◌, take, length}
-use Rattle.std.specs.Prelude.{All}
+use Rattle.ncl_cells.proofs.Terms.{All, length, take, ◌≡◌}
 use Rattle.ncl_cells.proofs.offer.have_width.Given as goal
 
 abbrev pub invariant-loop-row : goal.invariant-loop-row

@@ -1,10 +1,4 @@
-use Rattle.std.proofs.Common.{false, take, get_or, sym, subst}
-use Rattle.std.specs.Prelude.{All}
-use Rattle.std.proofs.lemmas.List.{take_more, take_all}
-use Rattle.std.proofs.lemmas.List.Elements.{All-push}
-use Rattle.ncl_network.specs.declared.network.SignalSource.TheVariants.{Input}
-use Rattle.ncl_network.specs.declared.network.Signal.{Signal}
-use Rattle.ncl_cells.specs.Recasts.{VariesBefore}
+use Rattle.ncl_cells.proofs.Terms.{All, All-push, Input, Signal, VariesBefore, false, get_or, subst, sym, take, take_all, take_more}
 use Rattle.ncl_cells.proofs.offer.vary_before.Goals as goal
 
 pub loop-signal-preserved : goal.loop-signal-preserved

@@ -1,6 +1,4 @@
-use Rattle.std.proofs.Common.{take}
-use Rattle.std.specs.Prelude.{All}
-use Rattle.ncl_cells.specs.Recasts.{VariesBefore}
+use Rattle.ncl_cells.proofs.Terms.{All, VariesBefore, take}
 use Rattle.ncl_cells.proofs.offer.vary_before.Given as goal
 
 abbrev pub invariant-loop-signal : goal.invariant-loop-signal

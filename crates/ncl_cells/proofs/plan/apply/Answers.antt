@@ -1,9 +1,4 @@
-use Rattle.std.proofs.Common.{◌≡◌, ◌+◌, ◌++◌, [], ◌∷◌, List, take, get_or, sym, ap, ◌∙◌, subst}
-use Rattle.std.proofs.lemmas.List.{take_more, take_all}
-use Rattle.ncl_network.specs.declared.network.Signal.{Signal}
-use Rattle.ncl_cells.specs.declared.small.Small.{Small}
-use Rattle.ncl_cells.specs.declared.plan.Arg.{Arg}
-use Rattle.ncl_cells.specs.declared.plan.Step.{Step}
+use Rattle.ncl_cells.proofs.Terms.{Arg, List, Signal, Small, Step, [], ap, get_or, subst, sym, take, take_all, take_more, ◌++◌, ◌+◌, ◌∙◌, ◌∷◌, ◌≡◌}
 use Rattle.ncl_cells.proofs.Plans.{no_step, IsArg, AreApplied, AreApplied-more, Adds-applied}
 use Rattle.ncl_cells.proofs.plan.apply.Goals as goal
 

@@ -1,8 +1,4 @@
-use Rattle.std.proofs.Common.{ℕ, length, take}
-use Rattle.std.specs.Prelude.{All}
-use Rattle.ncl_network.specs.declared.network.Signal.{Signal}
-use Rattle.ncl_network.specs.Network.{IsSource}
-use Rattle.ncl_cells.specs.Pools.{IsPool}
+use Rattle.ncl_cells.proofs.Terms.{All, IsPool, IsSource, Signal, length, take, ℕ}
 use Rattle.ncl_cells.proofs.Plans.{AreApplied}
 use Rattle.ncl_cells.proofs.plan.apply.Given as goal
 

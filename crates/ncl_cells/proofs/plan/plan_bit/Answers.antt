@@ -1,6 +1,4 @@
-use Rattle.std.proofs.Common.{◌≡◌, ◌+◌, ◌++◌, [], ◌∷◌, List, Bool, take, get_or, sym, ap, ◌∙◌, subst}
-use Rattle.ncl_cells.specs.declared.plan.Step.{Step}
-use Rattle.ncl_cells.specs.Plans.{step_value, step_values}
+use Rattle.ncl_cells.proofs.Terms.{Bool, List, Step, [], ap, get_or, step_value, step_values, subst, sym, take, ◌++◌, ◌+◌, ◌∙◌, ◌∷◌, ◌≡◌}
 use Rattle.ncl_cells.proofs.Plans.{no_step, step_values-more}
 use Rattle.ncl_cells.proofs.plan.plan_bit.Goals as goal
 

@@ -1,5 +1,4 @@
-use Rattle.std.proofs.Common.{◌≡◌, take}
-use Rattle.ncl_cells.specs.Plans.{step_values}
+use Rattle.ncl_cells.proofs.Terms.{step_values, take, ◌≡◌}
 use Rattle.ncl_cells.proofs.plan.plan_bit.Given as goal
 
 abbrev pub invariant-loop-step : goal.invariant-loop-step

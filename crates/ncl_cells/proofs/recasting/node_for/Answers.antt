@@ -1,9 +1,4 @@
-use Rattle.std.proofs.Common.{◌≡◌, sym, subst, Some}
-use Rattle.std.specs.Prelude.{slice_get}
-use Rattle.std.proofs.lemmas.Result.{IfOk-weaker}
-use Rattle.ncl_base.proofs.Places.{place_read}
-use Rattle.ncl_network.specs.declared.network.Node.{Node}
-use Rattle.ncl_cells.specs.Recasts.{MayStand}
+use Rattle.ncl_cells.proofs.Terms.{IfOk-weaker, MayStand, Node, Some, place_read, slice_get, subst, sym, ◌≡◌}
 use Rattle.ncl_cells.proofs.StandIns.{MayStand-itself}
 use Rattle.ncl_cells.proofs.recasting.node_for.Goals as goal
 

@@ -1,5 +1,4 @@
-use Rattle.std.proofs.Common.{◌≡◌, sym, subst, ◌∙◌}
-use Rattle.ncl_cells.specs.Remade.{IsRebuiltOf}
+use Rattle.ncl_cells.proofs.Terms.{IsRebuiltOf, subst, sym, ◌∙◌, ◌≡◌}
 use Rattle.ncl_cells.proofs.StandIns.{IsRebuilt-recast}
 use Rattle.ncl_cells.proofs.recasting.recast_all.Goals as goal
 

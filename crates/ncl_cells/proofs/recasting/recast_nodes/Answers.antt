@@ -1,7 +1,4 @@
-use Rattle.std.proofs.Common.{List, length, sym, ap, subst, arith}
-use Rattle.std.proofs.lemmas.List.{length_push}
-use Rattle.ncl_network.specs.declared.network.Node.{Node}
-use Rattle.ncl_cells.specs.Recasts.{MayStand, AreRecast}
+use Rattle.ncl_cells.proofs.Terms.{AreRecast, List, MayStand, Node, ap, arith, length, length_push, subst, sym}
 use Rattle.ncl_cells.proofs.Remade.{IsInOrder-narrow}
 use Rattle.ncl_cells.proofs.StandIns.{AreRecast-none, AreRecast-push}
 use Rattle.ncl_cells.proofs.recasting.recast_nodes.Goals as goal

@@ -1,5 +1,4 @@
-use Rattle.std.proofs.Common.{◌≡◌, length}
-use Rattle.ncl_cells.specs.Recasts.{AreRecast}
+use Rattle.ncl_cells.proofs.Terms.{AreRecast, length, ◌≡◌}
 use Rattle.ncl_cells.proofs.recasting.recast_nodes.Given as goal
 
 abbrev pub invariant-loop-place : goal.invariant-loop-place

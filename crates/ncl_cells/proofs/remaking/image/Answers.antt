@@ -1,5 +1,4 @@
-use Rattle.std.proofs.Common.{sym, subst}
-use Rattle.ncl_cells.specs.Remade.{IsImageOf}
+use Rattle.ncl_cells.proofs.Terms.{IsImageOf, subst, sym}
 use Rattle.ncl_cells.proofs.Remade.{image_turned}
 use Rattle.ncl_cells.proofs.remaking.image.Goals as goal
 

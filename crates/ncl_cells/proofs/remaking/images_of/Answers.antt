@@ -1,8 +1,4 @@
-use Rattle.std.proofs.Common.{false, take, get_or, sym, subst}
-use Rattle.std.proofs.lemmas.List.{take_more}
-use Rattle.ncl_network.specs.declared.network.SignalSource.TheVariants.{Input}
-use Rattle.ncl_network.specs.declared.network.Signal.{Signal}
-use Rattle.ncl_cells.specs.Remade.{AreImagesOf}
+use Rattle.ncl_cells.proofs.Terms.{AreImagesOf, Input, Signal, false, get_or, subst, sym, take, take_more}
 use Rattle.ncl_cells.proofs.Remade.{AreImagesOf-push}
 use Rattle.ncl_cells.proofs.remaking.images_of.Goals as goal
 

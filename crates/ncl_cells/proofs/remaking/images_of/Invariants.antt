@@ -1,5 +1,4 @@
-use Rattle.std.proofs.Common.{take}
-use Rattle.ncl_cells.specs.Remade.{AreImagesOf}
+use Rattle.ncl_cells.proofs.Terms.{AreImagesOf, take}
 use Rattle.ncl_cells.proofs.remaking.images_of.Given as goal
 
 abbrev pub invariant-loop-signal : goal.invariant-loop-signal

@@ -1,5 +1,4 @@
-use Rattle.std.proofs.Common.{◌∙◌}
-use Rattle.ncl_decomp.proofs.Whole.{narrow_left}
+use Rattle.ncl_cells.proofs.Terms.{narrow_left, ◌∙◌}
 use Rattle.ncl_cells.proofs.remaking.remake.Goals as goal
 
 pub returns : goal.returns

@@ -1,8 +1,4 @@
-use Rattle.std.proofs.Common.{◌≡◌, ◌<◌, ◌^◌, List, length, map, sym, ap, ◌∙◌, subst, arith}
-use Rattle.ncl_network.specs.declared.network.Signal.{Signal}
-use Rattle.ncl_cells.specs.declared.small.Small.{Small}
-use Rattle.ncl_cells.specs.Smalls.{small_node}
-use Rattle.ncl_cells.specs.Remade.{AreImagesOf}
+use Rattle.ncl_cells.proofs.Terms.{AreImagesOf, List, Signal, Small, ap, arith, length, map, small_node, subst, sym, ◌<◌, ◌^◌, ◌∙◌, ◌≡◌}
 use Rattle.ncl_cells.proofs.Remade.{rebuilt}
 use Rattle.ncl_cells.proofs.remaking.remake_all.Goals as goal
 

@@ -1,12 +1,4 @@
-use Rattle.std.proofs.Common.{ℕ, length, map, subst, ◌∙◌}
-use Rattle.std.specs.Prelude.{All}
-use Rattle.std.proofs.lemmas.Result.{IfOk-weaker}
-use Rattle.ncl_network.specs.declared.network.Signal.{Signal}
-use Rattle.ncl_network.specs.Network.{signal_value, IsSource}
-use Rattle.ncl_cells.specs.Cones.{Computes}
-use Rattle.ncl_cells.specs.Plans.{plan_value}
-use Rattle.ncl_cells.specs.Pools.{IsPool, Adds}
-use Rattle.ncl_cells.specs.Remade.{AreImagesOf, AreRemade, bit_at, leaf_signals}
+use Rattle.ncl_cells.proofs.Terms.{Adds, All, AreImagesOf, AreRemade, Computes, IfOk-weaker, IsPool, IsSource, Signal, bit_at, leaf_signals, length, map, plan_value, signal_value, subst, ℕ, ◌∙◌}
 use Rattle.ncl_cells.proofs.Remade.{Adds-node}
 use Rattle.ncl_cells.proofs.remaking.remake_node.Goals as goal
 

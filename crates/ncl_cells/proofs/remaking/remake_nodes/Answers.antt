@@ -1,9 +1,4 @@
-use Rattle.std.proofs.Common.{[], List, length, sym, ap, subst, arith}
-use Rattle.std.proofs.lemmas.List.{length_push}
-use Rattle.ncl_network.specs.declared.network.Signal.{Signal}
-use Rattle.ncl_cells.specs.declared.small.Small.{Small}
-use Rattle.ncl_cells.specs.Pools.{Adds}
-use Rattle.ncl_cells.specs.Remade.{AreRemade, bit_at}
+use Rattle.ncl_cells.proofs.Terms.{Adds, AreRemade, List, Signal, Small, [], ap, arith, bit_at, length, length_push, subst, sym}
 use Rattle.ncl_cells.proofs.Remade.{AreRemade-none, AreRemade-more}
 use Rattle.ncl_cells.proofs.remaking.remake_nodes.Goals as goal
 

@@ -1,5 +1,4 @@
-use Rattle.std.proofs.Common.{◌≡◌, length}
-use Rattle.ncl_cells.specs.Remade.{AreRemade}
+use Rattle.ncl_cells.proofs.Terms.{AreRemade, length, ◌≡◌}
 use Rattle.ncl_cells.proofs.remaking.remake_nodes.Given as goal
 
 abbrev pub invariant-loop-place : goal.invariant-loop-place

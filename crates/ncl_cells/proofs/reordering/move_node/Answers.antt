@@ -1,9 +1,4 @@
-use Rattle.std.proofs.Common.{◌≡◌, ◌+◌, ◌<◌, ◌^◌, List, [], ◌∷◌, ◌++◌, length, Option, Some, ℕ, refl, ap, subst, ◌∙◌, arith}
-use Rattle.std.specs.Prelude.{slice_get, slice_set}
-use Rattle.std.specs.List.{AllZip}
-use Rattle.std.proofs.lemmas.Option.{slice_get_read}
-use Rattle.ncl_network.specs.declared.network.Node.{Node}
-use Rattle.ncl_cells.specs.Reordered.{IsMoved}
+use Rattle.ncl_cells.proofs.Terms.{AllZip, IsMoved, List, Node, Option, Some, [], ap, arith, length, refl, slice_get, slice_get_read, slice_set, subst, ℕ, ◌++◌, ◌+◌, ◌<◌, ◌^◌, ◌∙◌, ◌∷◌, ◌≡◌}
 use Rattle.ncl_cells.proofs.Orders.{AreMoved-push}
 use Rattle.ncl_cells.proofs.reordering.move_node.Goals as goal
 

@@ -1,10 +1,4 @@
-use Rattle.std.proofs.Common.{false, ◌+◌, [], ◌∷◌, ◌++◌, take, get_or, sym, subst}
-use Rattle.std.specs.List.{AllZip}
-use Rattle.std.proofs.lemmas.List.{take_more}
-use Rattle.std.proofs.lemmas.List.Elements.{AllZip-push}
-use Rattle.ncl_network.specs.declared.network.SignalSource.TheVariants.{Input}
-use Rattle.ncl_network.specs.declared.network.Signal.{Signal}
-use Rattle.ncl_cells.specs.Reordered.{IsMoved}
+use Rattle.ncl_cells.proofs.Terms.{AllZip, AllZip-push, Input, IsMoved, Signal, [], false, get_or, subst, sym, take, take_more, ◌++◌, ◌+◌, ◌∷◌}
 use Rattle.ncl_cells.proofs.reordering.moved_signals.Goals as goal
 
 pub loop-signal-preserved : goal.loop-signal-preserved

@@ -1,6 +1,4 @@
-use Rattle.std.proofs.Common.{take}
-use Rattle.std.specs.List.{AllZip}
-use Rattle.ncl_cells.specs.Reordered.{IsMoved}
+use Rattle.ncl_cells.proofs.Terms.{AllZip, IsMoved, take}
 use Rattle.ncl_cells.proofs.reordering.moved_signals.Given as goal
 
 abbrev pub invariant-loop-signal : goal.invariant-loop-signal

@@ -1,10 +1,4 @@
-use Rattle.std.proofs.Common.{◌≡◌, List, length, Option, ℕ, ap, sym, subst, ◌∙◌, arith}
-use Rattle.std.specs.List.{AllZip}
-use Rattle.std.proofs.lemmas.List.{take_at}
-use Rattle.ncl_network.specs.declared.network.Signal.{Signal}
-use Rattle.ncl_network.specs.declared.network.Node.{Node}
-use Rattle.ncl_cells.specs.Remade.{IsRebuiltOf}
-use Rattle.ncl_cells.specs.Reordered.{IsMoved, AreMoved}
+use Rattle.ncl_cells.proofs.Terms.{AllZip, AreMoved, IsMoved, IsRebuiltOf, List, Node, Option, Signal, ap, arith, length, subst, sym, take_at, ℕ, ◌∙◌, ◌≡◌}
 use Rattle.ncl_cells.proofs.Orders.{IsRebuilt-moved}
 use Rattle.ncl_cells.proofs.reordering.reorder_all.Goals as goal
 

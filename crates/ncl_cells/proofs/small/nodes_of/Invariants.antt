@@ -1,5 +1,4 @@
-use Rattle.std.proofs.Common.{◌≡◌, map, take}
-use Rattle.ncl_cells.specs.Smalls.{small_node}
+use Rattle.ncl_cells.proofs.Terms.{map, small_node, take, ◌≡◌}
 use Rattle.ncl_cells.proofs.small.nodes_of.Given as goal
 
 abbrev pub invariant-loop-small : goal.invariant-loop-small

@@ -1,6 +1,4 @@
-use Rattle.std.proofs.Common.{sym, subst}
-use Rattle.ncl_lines.specs.VerdictText.{NamesCellOf}
-use Rattle.ncl_lines.proofs.NamedPlaces.{names_cell_of}
+use Rattle.ncl_check.proofs.Terms.{NamesCellOf, names_cell_of, subst, sym}
 use Rattle.ncl_check.proofs.checking.judged.Goals as goal
 
 pub verdict_text-requires : goal.verdict_text-requires

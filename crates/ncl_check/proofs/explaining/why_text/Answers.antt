@@ -1,12 +1,5 @@
-use Rattle.std.proofs.Common.{◌-◌, Err, ap, sym, ◌∙◌, subst}
+use Rattle.ncl_check.proofs.Terms.{Err, IfOk-weaker, IsOrphanText, IsWhyText, NamesCellOf, Verdict, ap, data_banks, explained, judged-orphan, names_cell_of, names_items, past_limit, subst, sym, ◌-◌, ◌∙◌}
 use Rattle.std.specs.Prelude.{IfOk}
-use Rattle.std.proofs.lemmas.Result.{IfOk-weaker}
-use Rattle.ncl_verdict.specs.declared.verdict.Verdict.{Verdict}
-use Rattle.ncl_hazard.proofs.OrphanPlaces.{judged-orphan}
-use Rattle.ncl_lines.specs.VerdictText.{NamesCellOf}
-use Rattle.ncl_lines.specs.WhyText.{IsOrphanText, IsWhyText, data_banks, explained, past_limit}
-use Rattle.ncl_lines.proofs.NamedPlaces.{names_cell_of}
-use Rattle.ncl_lines.proofs.WrittenSteps.{names_items}
 use Rattle.ncl_check.proofs.explaining.why_text.Goals as goal
 
 pub explain-requires-clause-stage : goal.explain-requires-clause-stage

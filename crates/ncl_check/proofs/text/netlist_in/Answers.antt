@@ -1,9 +1,4 @@
-use Rattle.std.proofs.Common.{◌≡◌, ◌≢◌, sym, subst, arith}
-use Rattle.std.specs.Prelude.{codes}
-use Rattle.ncl_reader.specs.declared.net_fault.NetFault.TheVariants.{Memory as OutOfMemory}
-use Rattle.ncl_lines.specs.Line.{line}
-use Rattle.ncl_lines.specs.NetText.{net_line}
-use Rattle.ncl_check.specs.Text.{IsRefusedText, too_long}
+use Rattle.ncl_check.proofs.Terms.{IsRefusedText, OutOfMemory, arith, codes, line, net_line, subst, sym, too_long, ◌≡◌, ◌≢◌}
 use Rattle.ncl_check.proofs.Refusing.{TellsLine-weaker, fault_told}
 use Rattle.ncl_check.proofs.text.netlist_in.Goals as goal
 

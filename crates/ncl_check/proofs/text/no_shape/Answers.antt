@@ -1,7 +1,4 @@
-use Rattle.std.proofs.Common.{◌≡◌, sym, subst}
-use Rattle.ncl_lines.proofs.NamedPlaces.{names_place_of}
-use Rattle.ncl_lines.specs.ShapeText.{shape_line}
-use Rattle.ncl_check.specs.Text.{IsShapeless}
+use Rattle.ncl_check.proofs.Terms.{IsShapeless, names_place_of, shape_line, subst, sym, ◌≡◌}
 use Rattle.ncl_check.proofs.Refusing.{shape_told, TellsLine-weaker}
 use Rattle.ncl_check.proofs.text.no_shape.Goals as goal
 

@@ -1,6 +1,5 @@
-use Rattle.std.proofs.Common.{ap, ap₂, ◌∙◌, map, true}
-use Rattle.clap.specs.Simple.{app_of_fields, on_top, with_rule, Shape}
-use Rattle.ncl_command.specs.Rules.{app_with, place_rule}
+use Rattle.ncl_command.specs.Rules.{app_with}
+use Rattle.ncl_command.proofs.Terms.{Shape, ap, app_of_fields, ap₂, map, on_top, place_rule, true, with_rule, ◌∙◌}
 use Rattle.ncl_command.proofs.CommandRules.{places_more, rules_more}
 use Rattle.ncl_command.proofs.form.form_command.Goals as goal
 

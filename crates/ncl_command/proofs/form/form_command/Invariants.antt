@@ -1,7 +1,4 @@
-use Rattle.std.proofs.Common.{◌≡◌, ◌++◌, map, take}
-use Rattle.clap.specs.Simple.{app_of}
-use Rattle.ncl_command.specs.Rules.{app_with, option_rule, place_rule}
-use Rattle.ncl_command.specs.Meaning.{option_meant}
+use Rattle.ncl_command.proofs.Terms.{app_of, app_with, map, option_meant, option_rule, place_rule, take, ◌++◌, ◌≡◌}
 use Rattle.ncl_command.proofs.form.form_command.Given as goal
 
 -- the command has the rules of the places so far

@@ -1,15 +1,4 @@
-use Rattle.std.proofs.Common.{◌≡◌, ◌∙◌, ◌≤◌, Bool, Bor, List, true, false, not, refl, length, sym, ap, subst, map, []}
-use Rattle.std.specs.List.{list_any}
-use Rattle.std.proofs.lemmas.List.{length-map}
-use Rattle.std.specs.Prelude.{option_map}
-use Rattle.std.proofs.lemmas.Bool.{and_parts}
-use Rattle.clap.specs.Faults.{fault_of, is_free_app, is_simple_and_free}
-use Rattle.clap.specs.Matches.{found_of}
-use Rattle.clap.specs.Simple.{app_of, built, is_simple, matches_of}
-use Rattle.clap.specs.Walk.{rows_of}
-use Rattle.ncl_command.specs.Reading.{Form, Text, has_option, is_apart, value_given}
-use Rattle.ncl_command.specs.Meaning.{form_meant}
-use Rattle.ncl_command.specs.Rules.{app_for}
+use Rattle.ncl_command.proofs.Terms.{Bool, Bor, Form, List, Text, [], and_parts, ap, app_for, app_of, built, false, fault_of, form_meant, found_of, has_option, is_apart, is_free_app, is_simple, is_simple_and_free, length, length-map, list_any, map, matches_of, not, option_map, refl, rows_of, subst, sym, true, value_given, ◌∙◌, ◌≡◌, ◌≤◌}
 use Rattle.ncl_command.proofs.FormRules.{is_free}
 use Rattle.ncl_command.proofs.FormReads.{Fails}
 use Rattle.ncl_command.proofs.FormValues.{fails_by, found, not_found}

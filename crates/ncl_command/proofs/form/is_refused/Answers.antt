@@ -1,7 +1,4 @@
-use Rattle.std.proofs.Common.{◌≡◌, ◌≢◌, ◌∙◌, ℕ, List, [], ◌∷◌, length, ◌==◌, None, Some, lit<, sym, ap, refl, arith}
-use Rattle.std.proofs.lemmas.Bool.{ne_eqb}
-use Rattle.std.proofs.lemmas.Str.Pattern.{strip_prefix_char}
-use Rattle.ncl_command.specs.Reading.{is_refused, is_refused_kind}
+use Rattle.ncl_command.proofs.Terms.{List, None, Some, [], ap, arith, is_refused, is_refused_kind, length, lit<, ne_eqb, refl, strip_prefix_char, sym, ℕ, ◌==◌, ◌∙◌, ◌∷◌, ◌≡◌, ◌≢◌}
 use Rattle.ncl_command.proofs.ArgumentKinds.{plain_kind, refused_kind}
 use Rattle.ncl_command.proofs.form.is_refused.Goals as goal
 

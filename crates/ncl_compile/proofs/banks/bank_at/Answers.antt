@@ -1,14 +1,4 @@
-use Rattle.std.proofs.Common.{◌≡◌, suc, ◌-◌, [], ◌∷◌, length, refl, sym, ap, ◌∙◌, subst, arith}
-use Rattle.std.specs.Prelude.{slice_index}
-use Rattle.std.proofs.lemmas.Option.{slice_get_read}
-use Rattle.std.proofs.lemmas.Result.{IfOk-weaker}
-use Rattle.std.proofs.lemmas.List.FromFn.{length-map-range_with_len}
-use Rattle.ncl_blif.specs.Meaning.{width_of}
-use Rattle.ncl_tree.specs.NamePairs.{pair_names, IsFreeOf}
-use Rattle.ncl_compile.specs.Size.{widths_of}
-use Rattle.ncl_compile.specs.Ports.{port_pair, input_pairs}
-use Rattle.ncl_compile.specs.InnerNames.{bank_prefix}
-use Rattle.ncl_compile.specs.Pieces.{IsBankBetween, outputs_of, pairs_read}
+use Rattle.ncl_compile.proofs.Terms.{IfOk-weaker, IsBankBetween, IsFreeOf, [], ap, arith, bank_prefix, input_pairs, length, length-map-range_with_len, outputs_of, pair_names, pairs_read, port_pair, refl, slice_get_read, slice_index, subst, suc, sym, width_of, widths_of, ◌-◌, ◌∙◌, ◌∷◌, ◌≡◌}
 use Rattle.ncl_compile.proofs.CallLaws.{inputs_free}
 use Rattle.ncl_compile.proofs.BankWidths.{width_bounds, length-outputs, stage_outputs_free}
 use Rattle.ncl_compile.proofs.banks.bank_at.Goals as goal

@@ -1,6 +1,5 @@
-use Rattle.std.proofs.Common.{◌≡◌, codes, sym, ◌∙◌, subst, arith}
-use Rattle.ncl_bank.specs.BankParts.{CanBeBank}
-use Rattle.ncl_compile.specs.InnerNames.{bank_prefix, pairs_driven, root_name, request_name}
+use Rattle.ncl_compile.proofs.Terms.{CanBeBank, arith, bank_prefix, pairs_driven, request_name, root_name, subst, sym, ◌∙◌, ◌≡◌}
+use Rattle.std.proofs.Common.{codes}
 use Rattle.ncl_compile.proofs.CallLaws.{bank_can}
 use Rattle.ncl_compile.proofs.banks.bank_between.Goals as goal
 

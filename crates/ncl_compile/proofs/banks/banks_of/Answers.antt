@@ -1,9 +1,4 @@
-use Rattle.std.proofs.Common.{◌≡◌, length, inl, inr, sym, ap, ◌∙◌, subst, arith}
-use Rattle.std.specs.Prelude.{slice_get, slice_index}
-use Rattle.ncl_blif.specs.Meaning.{width_of}
-use Rattle.ncl_compile.specs.Size.{widths_of}
-use Rattle.ncl_compile.specs.Pieces.{IsBankBetween, pairs_read}
-use Rattle.ncl_base.proofs.Places.{push_cases}
+use Rattle.ncl_compile.proofs.Terms.{IsBankBetween, ap, arith, inl, inr, length, pairs_read, push_cases, slice_get, slice_index, subst, sym, width_of, widths_of, ◌∙◌, ◌≡◌}
 use Rattle.ncl_compile.proofs.banks.banks_of.Goals as goal
 
 pub loop-number-preserved : goal.loop-number-preserved

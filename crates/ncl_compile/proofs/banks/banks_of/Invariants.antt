@@ -1,9 +1,4 @@
-use Rattle.std.proofs.Common.{◌≡◌, ℕ, length, Some}
-use Rattle.std.specs.Prelude.{slice_get, slice_index}
-use Rattle.ncl_blif.specs.Meaning.{width_of}
-use Rattle.ncl_bank.specs.declared.BankParts.{BankParts}
-use Rattle.ncl_compile.specs.Size.{widths_of}
-use Rattle.ncl_compile.specs.Pieces.{IsBankBetween, pairs_read}
+use Rattle.ncl_compile.proofs.Terms.{BankParts, IsBankBetween, Some, length, pairs_read, slice_get, slice_index, width_of, widths_of, ℕ, ◌≡◌}
 use Rattle.ncl_compile.proofs.banks.banks_of.Given as goal
 
 abbrev pub invariant-loop-number : goal.invariant-loop-number

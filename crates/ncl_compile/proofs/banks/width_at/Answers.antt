@@ -1,8 +1,4 @@
-use Rattle.std.proofs.Common.{◌≡◌, suc, ◌-◌, length, refl, sym, ap, ◌∙◌, arith}
-use Rattle.std.specs.Prelude.{slice_index}
-use Rattle.std.proofs.lemmas.Option.{slice_get_read}
-use Rattle.ncl_blif.specs.declared.model.Model.{Model}
-use Rattle.ncl_compile.specs.Size.{widths_of}
+use Rattle.ncl_compile.proofs.Terms.{Model, ap, arith, length, refl, slice_get_read, slice_index, suc, sym, widths_of, ◌-◌, ◌∙◌, ◌≡◌}
 use Rattle.ncl_compile.proofs.BankWidths.{width_before, width_after}
 use Rattle.ncl_compile.proofs.banks.width_at.Goals as goal
 

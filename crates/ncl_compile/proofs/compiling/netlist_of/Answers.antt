@@ -1,7 +1,4 @@
-use Rattle.std.proofs.Common.{sym, subst}
-use Rattle.ncl_netlist.specs.Netlist.{IsNetlist}
-use Rattle.ncl_netlist.proofs.FaultLaws.{IsFaultOf-excludes}
-use Rattle.ncl_compile.specs.Compiled.{Compiled}
+use Rattle.ncl_compile.proofs.Terms.{Compiled, IsFaultOf-excludes, IsNetlist, subst, sym}
 use Rattle.ncl_compile.proofs.CompiledParts.{is_compiled}
 use Rattle.ncl_compile.proofs.NetDrivers.{plain_nets, plain_cells, apart}
 use Rattle.ncl_compile.proofs.TextLength.{text_short}

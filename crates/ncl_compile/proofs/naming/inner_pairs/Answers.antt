@@ -1,7 +1,4 @@
-use Rattle.std.proofs.Common.{arith}
-use Rattle.std.proofs.lemmas.List.FromFn.{map-range_with_len_more}
-use Rattle.std.proofs.lemmas.Grind.{common_steps}
-use Rattle.ncl_compile.specs.InnerNames.{inner_pair}
+use Rattle.ncl_compile.proofs.Terms.{arith, common_steps, inner_pair, map-range_with_len_more}
 use Rattle.ncl_compile.proofs.naming.inner_pairs.Goals as goal
 
 pub loop-bit-preserved : goal.loop-bit-preserved

@@ -1,6 +1,4 @@
-use Rattle.std.proofs.Common.{◌≡◌, map}
-use Rattle.std.specs.List.{range_with_len}
-use Rattle.ncl_compile.specs.InnerNames.{inner_pair}
+use Rattle.ncl_compile.proofs.Terms.{inner_pair, map, range_with_len, ◌≡◌}
 use Rattle.ncl_compile.proofs.naming.inner_pairs.Given as goal
 
 abbrev pub invariant-loop-bit : goal.invariant-loop-bit

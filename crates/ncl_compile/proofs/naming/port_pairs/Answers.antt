@@ -1,7 +1,4 @@
-use Rattle.std.proofs.Common.{◌≡◌, ◌+◌, ◌-◌, ◌∷◌, [], arith}
-use Rattle.std.proofs.lemmas.List.FromFn.{map-range_with_len_more}
-use Rattle.std.proofs.lemmas.Grind.{common_steps}
-use Rattle.ncl_compile.specs.Ports.{port_pair}
+use Rattle.ncl_compile.proofs.Terms.{[], arith, common_steps, map-range_with_len_more, port_pair, ◌+◌, ◌-◌, ◌∷◌, ◌≡◌}
 use Rattle.ncl_compile.proofs.naming.port_pairs.Goals as goal
 
 pub loop-number-preserved : goal.loop-number-preserved

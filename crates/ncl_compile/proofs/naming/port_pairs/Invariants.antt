@@ -1,6 +1,4 @@
-use Rattle.std.proofs.Common.{◌≡◌, ◌-◌, ◌∷◌, [], map}
-use Rattle.std.specs.List.{range_with_len}
-use Rattle.ncl_compile.specs.Ports.{port_pair}
+use Rattle.ncl_compile.proofs.Terms.{[], map, port_pair, range_with_len, ◌-◌, ◌∷◌, ◌≡◌}
 use Rattle.ncl_compile.proofs.naming.port_pairs.Given as goal
 
 abbrev pub invariant-loop-number : goal.invariant-loop-number

@@ -1,6 +1,4 @@
-use Rattle.std.proofs.Common.{◌≡◌, ◌++◌}
-use Rattle.std.specs.List.{flat_map}
-use Rattle.ncl_bank.specs.declared.BankParts.{BankParts}
+use Rattle.ncl_compile.proofs.Terms.{BankParts, flat_map, ◌++◌, ◌≡◌}
 use Rattle.ncl_compile.proofs.putting.add_banks.Given as goal
 
 abbrev pub invariant-loop-bank : goal.invariant-loop-bank

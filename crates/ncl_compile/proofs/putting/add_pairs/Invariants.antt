@@ -1,6 +1,4 @@
-use Rattle.std.proofs.Common.{◌≡◌, ◌++◌}
-use Rattle.ncl_tree.specs.NamePairs.{pair_names}
-use Rattle.ncl_compile.specs.Ports.{ports_named}
+use Rattle.ncl_compile.proofs.Terms.{pair_names, ports_named, ◌++◌, ◌≡◌}
 use Rattle.ncl_compile.proofs.putting.add_pairs.Given as goal
 
 abbrev pub invariant-loop-pair : goal.invariant-loop-pair

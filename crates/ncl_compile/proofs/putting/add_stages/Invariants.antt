@@ -1,6 +1,4 @@
-use Rattle.std.proofs.Common.{◌≡◌, ◌++◌}
-use Rattle.std.specs.List.{flat_map}
-use Rattle.ncl_rails.specs.declared.StageParts.{StageParts}
+use Rattle.ncl_compile.proofs.Terms.{StageParts, flat_map, ◌++◌, ◌≡◌}
 use Rattle.ncl_compile.proofs.putting.add_stages.Given as goal
 
 abbrev pub invariant-loop-stage : goal.invariant-loop-stage

@@ -1,8 +1,4 @@
-use Rattle.std.proofs.Common.{◌≡◌, Some, length, inl, inr, refl, sym, ap, ◌∙◌, subst, arith}
-use Rattle.std.specs.Prelude.{slice_get}
-use Rattle.std.proofs.lemmas.Bool.{cases_lt}
-use Rattle.std.proofs.lemmas.Option.{slice_get_read}
-use Rattle.ncl_compile.specs.Size.{IsSlim}
+use Rattle.ncl_compile.proofs.Terms.{IsSlim, Some, ap, arith, cases_lt, inl, inr, length, refl, slice_get, slice_get_read, subst, sym, ◌∙◌, ◌≡◌}
 use Rattle.ncl_compile.proofs.SizeLaws.{few_models, all_slim}
 use Rattle.ncl_compile.proofs.sizing.check_size.Goals as goal
 

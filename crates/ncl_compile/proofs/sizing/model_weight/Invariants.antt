@@ -1,6 +1,4 @@
-use Rattle.std.proofs.Common.{◌≡◌, take, sum_by}
-use Rattle.ncl_blif.specs.declared.model.Cover.{Cover}
-use Rattle.ncl_blif.specs.Model.{weight_of_rows}
+use Rattle.ncl_compile.proofs.Terms.{Cover, sum_by, take, weight_of_rows, ◌≡◌}
 use Rattle.ncl_compile.proofs.sizing.model_weight.Given as goal
 
 abbrev pub invariant-loop-cover : goal.invariant-loop-cover

@@ -1,5 +1,4 @@
-use Rattle.std.proofs.Common.{◌≡◌, take}
-use Rattle.ncl_blif.specs.Model.{weight_of_rows}
+use Rattle.ncl_compile.proofs.Terms.{take, weight_of_rows, ◌≡◌}
 use Rattle.ncl_compile.proofs.sizing.rows_weight.Given as goal
 
 abbrev pub invariant-loop-row : goal.invariant-loop-row

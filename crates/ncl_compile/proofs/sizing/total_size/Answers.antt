@@ -1,7 +1,4 @@
-use Rattle.std.proofs.Common.{◌-◌, length, sum_by, ap, arith}
-use Rattle.std.proofs.lemmas.List.{take_all}
-use Rattle.ncl_blif.specs.declared.model.Model.{Model}
-use Rattle.ncl_network.specs.Network.{weight_of_model}
+use Rattle.ncl_compile.proofs.Terms.{Model, ap, arith, length, sum_by, take_all, weight_of_model, ◌-◌}
 use Rattle.ncl_compile.proofs.SizeLaws.{units_of, compile_size-is, model-small, units-small}
 use Rattle.ncl_compile.proofs.sizing.total_size.Goals as goal
 

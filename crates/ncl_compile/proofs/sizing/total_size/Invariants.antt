@@ -1,6 +1,4 @@
-use Rattle.std.proofs.Common.{◌≡◌, ◌+◌, take, length, sum_by}
-use Rattle.ncl_blif.specs.declared.model.Model.{Model}
-use Rattle.ncl_network.specs.Network.{weight_of_model}
+use Rattle.ncl_compile.proofs.Terms.{Model, length, sum_by, take, weight_of_model, ◌+◌, ◌≡◌}
 use Rattle.ncl_compile.proofs.sizing.total_size.Given as goal
 
 abbrev pub invariant-loop-model : goal.invariant-loop-model

@@ -1,8 +1,4 @@
-use Rattle.std.proofs.Common.{◌≡◌, length, sym, ap, ◌∙◌, subst, arith}
-use Rattle.std.proofs.lemmas.Result.{IfOk-weaker}
-use Rattle.ncl_rails.specs.StageParts.{CanBeStage, AreStageParts}
-use Rattle.ncl_compile.specs.InnerNames.{inner_pairs, stage_prefix}
-use Rattle.ncl_compile.specs.Pieces.{IsStageOfModel}
+use Rattle.ncl_compile.proofs.Terms.{AreStageParts, CanBeStage, IfOk-weaker, IsStageOfModel, ap, arith, inner_pairs, length, stage_prefix, subst, sym, ◌∙◌, ◌≡◌}
 use Rattle.ncl_compile.proofs.CallLaws.{stage_can}
 use Rattle.ncl_compile.proofs.stages.stage_of.Goals as goal
 

@@ -1,5 +1,4 @@
-use Rattle.std.proofs.Common.{◌+◌, take, sym, subst, arith}
-use Rattle.ncl_compile.specs.Pieces.{AreStages}
+use Rattle.ncl_compile.proofs.Terms.{AreStages, arith, subst, sym, take, ◌+◌}
 use Rattle.ncl_compile.proofs.PieceLaws.{AreStages-more}
 use Rattle.ncl_compile.proofs.stages.stages_of.Goals as goal
 

@@ -1,14 +1,4 @@
-use Rattle.std.proofs.Common.{true, length, sym, ◌∙◌, ap}
-use Rattle.ncl_shape.specs.Stage.{StageData}
-use Rattle.ncl_space.specs.Functions.{least}
-use Rattle.ncl_faults.specs.declared.variant.Variant.TheVariants.{Base, Bit}
-use Rattle.std.specs.Option.{option_map}
-use Rattle.ncl_stage.specs.BitOrder.{placed}
-use Rattle.ncl_faults.specs.Faults.{Incomplete}
-use Rattle.ncl_stage.specs.Tables.{all_data_function}
-use Rattle.ncl_stage.proofs.OutputLaws.{values_at}
-use Rattle.ncl_stage.proofs.LeastLaws.{least-shown, incomplete-shown}
-use Rattle.ncl_stage.proofs.ChangedLaws.{values-width}
+use Rattle.ncl_complete.proofs.Terms.{Base, Bit, Incomplete, StageData, all_data_function, ap, incomplete-shown, least, least-shown, length, option_map, placed, sym, true, values-width, values_at, ◌∙◌}
 use Rattle.ncl_complete.proofs.inputs.incomplete_word.Goals as goal
 
 pub returns-clause-word : goal.returns-clause-word

@@ -1,17 +1,4 @@
-use Rattle.std.proofs.Common.{◌≡◌, ℕ, ◌<◌, ◌≤◌, Bool, true, false, List, Option, None, length, get_or, sym, ◌∙◌, ap, subst, arith, below_more}
-use Rattle.ncl_shape.specs.declared.rails.Rails.{Rails}
-use Rattle.ncl_shape.specs.Stage.{StageData}
-use Rattle.ncl_space.specs.Functions.{least}
-use Rattle.ncl_space.specs.Space.{SpaceData}
-use Rattle.ncl_space.specs.Making.{HaveTables}
-use Rattle.ncl_space.specs.declared.space.Ref.{Ref}
-use Rattle.std.specs.Option.{option_map}
-use Rattle.ncl_stage.specs.BitOrder.{IsOrderOf, placed}
-use Rattle.ncl_faults.specs.declared.variant.Variant.TheVariants.{Base}
-use Rattle.ncl_stage.specs.Tables.{data_functions, function_tables_by, illegal_functions}
-use Rattle.ncl_stage.proofs.OutputLaws.{values_at}
-use Rattle.ncl_faults.specs.Faults.{BothRails, NoRail}
-use Rattle.ncl_stage.specs.LeastWords.{least_word_by}
+use Rattle.ncl_complete.proofs.Terms.{Base, Bool, BothRails, HaveTables, IsOrderOf, List, NoRail, None, Option, Rails, Ref, SpaceData, StageData, ap, arith, below_more, data_functions, false, function_tables_by, get_or, illegal_functions, least, least_word_by, length, option_map, placed, subst, sym, true, values_at, ℕ, ◌<◌, ◌∙◌, ◌≡◌, ◌≤◌}
 use Rattle.ncl_complete.specs.declared.rail_fault.RailFault.TheVariants as rail
 use Rattle.ncl_complete.proofs.OutputFaults.{output_fault, both-found, none-found, fault-both, fault-empty, fault-none, first-fault, no-fault}
 use Rattle.ncl_complete.proofs.rails.first_fault.Goals as goal

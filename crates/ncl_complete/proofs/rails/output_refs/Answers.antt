@@ -1,22 +1,4 @@
-use Rattle.std.proofs.Common.{◌≡◌, ℕ, ◌<◌, Bool, false, List, ◌++◌, Err, length, map, sym, ◌∙◌, ap, subst, rules}
-use Rattle.std.specs.Prelude.{All}
-use Rattle.std.proofs.lemmas.List.{length-map}
-use Rattle.std.proofs.lemmas.List.Elements.{All-append}
-use Rattle.ncl_gates.specs.declared.kind.Kind.TheVariants.{Th12, Th22}
-use Rattle.ncl_shape.specs.Stage.{StageData, IsStage, nets_of}
-use Rattle.ncl_space.specs.Space.{SpaceData, IsSpace, Keeps, fits, with_tables}
-use Rattle.ncl_space.specs.Making.{HaveTables, IsNamed, MakesAll}
-use Rattle.ncl_space.specs.declared.space.Ref.{Ref}
-use Rattle.ncl_space.proofs.SpaceLaws.{keeps_all, keeps_along, too_much_by_front}
-use Rattle.ncl_space.proofs.MakingLaws.{have-length, have-kept, tables-kept, held-along, too_much-after, handed_on, with_tables-live, named-all}
-use Rattle.ncl_faults.specs.declared.variant.Variant.TheVariants.{Base}
-use Rattle.ncl_stage.specs.Tables.{data_functions, data_fronts, function_tables_by, illegal_functions, tables_by}
-use Rattle.ncl_stage.specs.BitOrder.{IsOrderOf}
-use Rattle.ncl_stage.specs.Wiring.{WiringData}
-use Rattle.ncl_stage.specs.StageTables.{AreValues, ValuesData, net_table_by, net_tables_by, pair_table, front_tables}
-use Rattle.ncl_stage.proofs.OutputLaws.{values_at, outputs-within, data-tables, illegal-tables, front-tables, shared-tables}
-use Rattle.ncl_stage.proofs.LeastLaws.{tables_of-parts}
-use Rattle.ncl_stage.proofs.ChangedLaws.{values-width}
+use Rattle.ncl_complete.proofs.Terms.{All, All-append, AreValues, Base, Bool, Err, HaveTables, IsNamed, IsOrderOf, IsSpace, IsStage, Keeps, List, MakesAll, Ref, SpaceData, StageData, Th12, Th22, ValuesData, WiringData, ap, data-tables, data_fronts, data_functions, false, fits, front-tables, front_tables, function_tables_by, handed_on, have-kept, have-length, held-along, illegal-tables, illegal_functions, keeps_all, keeps_along, length, length-map, map, named-all, net_table_by, net_tables_by, nets_of, outputs-within, pair_table, rules, shared-tables, subst, sym, tables-kept, tables_by, tables_of-parts, too_much-after, too_much_by_front, values-width, values_at, with_tables, with_tables-live, ℕ, ◌++◌, ◌<◌, ◌∙◌, ◌≡◌}
 use Rattle.ncl_complete.proofs.rails.output_refs.Goals as goal
 
 -- the lists of tables of Base

@@ -1,11 +1,4 @@
-use Rattle.std.proofs.Common.{ℕ, List, sym, ◌∙◌, subst}
-use Rattle.ncl_shape.specs.Stage.{StageData}
-use Rattle.ncl_space.specs.Making.{HaveTables}
-use Rattle.ncl_space.specs.Space.{SpaceData}
-use Rattle.ncl_faults.specs.declared.variant.Variant.TheVariants.{Base}
-use Rattle.ncl_stage.specs.Tables.{data_functions, function_tables_by, illegal_functions}
-use Rattle.ncl_stage.proofs.ChangedLaws.{values-width}
-use Rattle.ncl_stage.proofs.OutputLaws.{values_at}
+use Rattle.ncl_complete.proofs.Terms.{Base, HaveTables, List, SpaceData, StageData, data_functions, function_tables_by, illegal_functions, subst, sym, values-width, values_at, ℕ, ◌∙◌}
 use Rattle.ncl_complete.proofs.rails.valid_rails.Goals as goal
 
 pub first_fault-requires-clause-some : goal.first_fault-requires-clause-some

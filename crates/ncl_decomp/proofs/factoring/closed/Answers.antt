@@ -1,7 +1,4 @@
-use Rattle.std.proofs.Common.{◌≡◌, ◌++◌, ◌∷◌, [], length, sym, ap, ◌∙◌, subst}
-use Rattle.std.proofs.lemmas.Bool.{eqb-true}
-use Rattle.ncl_decomp.specs.Products.{under}
-use Rattle.ncl_decomp.specs.Splitting.{AddsSum}
+use Rattle.ncl_decomp.proofs.Terms.{AddsSum, [], ap, eqb-true, length, subst, sym, under, ◌++◌, ◌∙◌, ◌∷◌, ◌≡◌}
 use Rattle.ncl_decomp.proofs.Sums.{AddsSum-among}
 use Rattle.ncl_decomp.proofs.Frames.{AddsSum-empty}
 use Rattle.ncl_decomp.proofs.factoring.closed.Goals as goal

@@ -1,8 +1,4 @@
-use Rattle.std.proofs.Common.{◌≡◌, ◌≤◌, ◌++◌, length, ap, sym, subst, ◌∙◌, arith}
-use Rattle.std.specs.Prelude.{count_by, IfSome}
-use Rattle.ncl_decomp.specs.declared.factoring.Frame.{Frame}
-use Rattle.ncl_decomp.specs.Products.{has, under, total}
-use Rattle.ncl_decomp.specs.Splitting.{IsSameSum, AddsSum}
+use Rattle.ncl_decomp.proofs.Terms.{AddsSum, Frame, IfSome, IsSameSum, ap, arith, count_by, has, length, subst, sym, total, under, ◌++◌, ◌∙◌, ◌≡◌, ◌≤◌}
 use Rattle.ncl_decomp.proofs.Frames.{AddsSum-start, AddsSum-parted, AddsSum-closed, frames_room, parted_less, closed_less}
 use Rattle.ncl_decomp.proofs.factoring.factored.Goals as goal
 

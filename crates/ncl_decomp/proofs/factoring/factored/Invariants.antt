@@ -1,5 +1,4 @@
-use Rattle.ncl_decomp.specs.Products.{whole}
-use Rattle.ncl_decomp.specs.Splitting.{AddsSum}
+use Rattle.ncl_decomp.proofs.Terms.{AddsSum, whole}
 use Rattle.ncl_decomp.proofs.Frames.{left_over}
 use Rattle.ncl_decomp.proofs.factoring.factored.Given as goal
 

@@ -1,8 +1,4 @@
-use Rattle.std.proofs.Common.{◌≡◌, ◌++◌, ◌∷◌, [], true, sym, ap, ◌∙◌, subst}
-use Rattle.std.specs.List.{list_any}
-use Rattle.ncl_network.specs.declared.network.Signal.{Signal}
-use Rattle.ncl_decomp.specs.Products.{under, is_empty}
-use Rattle.ncl_decomp.specs.Splitting.{AddsSum}
+use Rattle.ncl_decomp.proofs.Terms.{AddsSum, Signal, [], ap, is_empty, list_any, subst, sym, true, under, ◌++◌, ◌∙◌, ◌∷◌, ◌≡◌}
 use Rattle.ncl_decomp.proofs.Frames.{AddsSum-inner, AddsSum-alone}
 use Rattle.ncl_decomp.proofs.factoring.inner.Goals as goal
 use Rattle.ncl_decomp.proofs.factoring.inner.Goals.{then-not-has_empty+in_ok-rest+in_ok-push-2, else-not-has_empty}

@@ -1,9 +1,4 @@
-use Rattle.std.proofs.Common.{◌≡◌, ℕ, ◌+◌, ◌<◌, ◌≤◌, true, false, List, [], ◌∷◌, ◌++◌, length, take, sym, ap, ◌∙◌, subst, arith, length-append}
-use Rattle.std.proofs.lemmas.List.{take_more}
-use Rattle.std.proofs.lemmas.List.Sums.{count_by_more_yes, count_by_more_no}
-use Rattle.ncl_network.specs.declared.network.Signal.{Signal}
-use Rattle.ncl_decomp.specs.Products.{has, under, without}
-use Rattle.ncl_decomp.specs.Splitting.{IsSameSum}
+use Rattle.ncl_decomp.proofs.Terms.{IsSameSum, List, Signal, [], ap, arith, count_by_more_no, count_by_more_yes, false, has, length, length-append, subst, sym, take, take_more, true, under, without, ℕ, ◌++◌, ◌+◌, ◌<◌, ◌∙◌, ◌∷◌, ◌≡◌, ◌≤◌}
 use Rattle.ncl_decomp.proofs.Parting.{IsSameSum-other, IsSameSum-rest, has_if_short, lacks_if_whole}
 use Rattle.ncl_decomp.proofs.factoring.parted.Goals as goal
 use Rattle.ncl_decomp.proofs.factoring.parted.Goals.{then-len-items+in_ok-push, else-len-items+in_ok-push-2}

@@ -1,7 +1,4 @@
-use Rattle.std.proofs.Common.{◌≡◌, ◌++◌, take, length}
-use Rattle.std.specs.Prelude.{count_by}
-use Rattle.ncl_decomp.specs.Products.{has, under}
-use Rattle.ncl_decomp.specs.Splitting.{IsSameSum}
+use Rattle.ncl_decomp.proofs.Terms.{IsSameSum, count_by, has, length, take, under, ◌++◌, ◌≡◌}
 use Rattle.ncl_decomp.proofs.factoring.parted.Given as goal
 
 abbrev pub invariant-loop-product : goal.invariant-loop-product

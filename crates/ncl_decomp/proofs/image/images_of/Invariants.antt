@@ -1,5 +1,4 @@
-use Rattle.std.proofs.Common.{◌≡◌, map, take}
-use Rattle.ncl_decomp.specs.Images.{image_of}
+use Rattle.ncl_decomp.proofs.Terms.{image_of, map, take, ◌≡◌}
 use Rattle.ncl_decomp.proofs.image.images_of.Given as goal
 
 abbrev pub invariant-loop-signal : goal.invariant-loop-signal

@@ -1,5 +1,4 @@
-use Rattle.std.proofs.Common.{◌≡◌, map, take}
-use Rattle.ncl_decomp.specs.Rows.{literals_of}
+use Rattle.ncl_decomp.proofs.Terms.{literals_of, map, take, ◌≡◌}
 use Rattle.ncl_decomp.proofs.products.products.Given as goal
 
 abbrev pub invariant-loop-row : goal.invariant-loop-row

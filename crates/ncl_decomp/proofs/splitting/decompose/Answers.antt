@@ -1,13 +1,4 @@
-use Rattle.std.proofs.Common.{◌≡◌, ◌<◌, ◌+◌, length, map, take, get_or, sym, ap, ◌∙◌, subst}
-use Rattle.std.specs.Prelude.{All}
-use Rattle.std.proofs.lemmas.List.{take_all}
-use Rattle.ncl_network.specs.declared.network.Signal.{Signal}
-use Rattle.ncl_network.specs.declared.network.Network.{Network}
-use Rattle.ncl_network.specs.Network.{answer_of}
-use Rattle.ncl_network.specs.Prune.{IsInOrder, IsPlaced}
-use Rattle.ncl_decomp.specs.Images.{image_of}
-use Rattle.ncl_decomp.specs.Split.{IsOfTwoOr}
-use Rattle.ncl_decomp.specs.Splitting.{AreSplit}
+use Rattle.ncl_decomp.proofs.Terms.{All, AreSplit, IsInOrder, IsOfTwoOr, IsPlaced, Network, Signal, answer_of, ap, get_or, image_of, length, map, subst, sym, take, take_all, ◌+◌, ◌<◌, ◌∙◌, ◌≡◌}
 use Rattle.ncl_decomp.proofs.Whole.{turn_placed, turn_split, IsInOrder-split, same_split}
 use Rattle.ncl_decomp.proofs.splitting.decompose.Goals as goal
 use Rattle.ncl_decomp.proofs.splitting.decompose.Goals.{After-drop-images-2}

@@ -1,5 +1,4 @@
-use Rattle.std.proofs.Common.{take}
-use Rattle.ncl_decomp.specs.Splitting.{AreSplit}
+use Rattle.ncl_decomp.proofs.Terms.{AreSplit, take}
 use Rattle.ncl_decomp.proofs.splitting.decompose.Given as goal
 
 abbrev pub invariant-loop-node : goal.invariant-loop-node

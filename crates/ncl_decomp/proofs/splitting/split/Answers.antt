@@ -1,5 +1,4 @@
-use Rattle.std.proofs.Common.{arith}
-use Rattle.ncl_network.specs.Network.{weight_of_network}
+use Rattle.ncl_decomp.proofs.Terms.{arith, weight_of_network}
 use Rattle.ncl_decomp.proofs.Whole.{kinds_left, cost_left, IsSplit-left}
 use Rattle.ncl_decomp.proofs.splitting.split.Goals as goal
 

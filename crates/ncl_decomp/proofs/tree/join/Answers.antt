@@ -1,7 +1,4 @@
-use Rattle.std.proofs.Common.{◌≡◌, ◌++◌, [], ◌∷◌, length, ◌∙◌, arith}
-use Rattle.std.proofs.lemmas.Grind.{common_steps}
-use Rattle.ncl_network.specs.declared.network.Signal.{Signal}
-use Rattle.ncl_decomp.specs.Pairs.{node_signal, pair_node}
+use Rattle.ncl_decomp.proofs.Terms.{Signal, [], arith, common_steps, length, node_signal, pair_node, ◌++◌, ◌∙◌, ◌∷◌, ◌≡◌}
 use Rattle.ncl_decomp.proofs.Queue.{IsGrowing-more, AddsTree-grown}
 use Rattle.ncl_decomp.proofs.tree.join.Goals as goal
 

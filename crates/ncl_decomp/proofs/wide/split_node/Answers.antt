@@ -1,11 +1,4 @@
-use Rattle.std.proofs.Common.{◌≡◌, ◌<◌, ◌+◌, ◌^◌, ◌++◌, ◌∷◌, [], List, length, map, sym, ap, ◌∙◌, subst, arith}
-use Rattle.std.specs.Prelude.{All}
-use Rattle.ncl_blif.specs.declared.model.Lit.{Lit}
-use Rattle.ncl_network.specs.declared.network.Node.{Node}
-use Rattle.ncl_decomp.specs.Pairs.{node_signal}
-use Rattle.ncl_decomp.specs.Rows.{literals_of}
-use Rattle.ncl_decomp.specs.Products.{IsFilled, total}
-use Rattle.ncl_decomp.specs.Splitting.{AddsSum, AddsNode}
+use Rattle.ncl_decomp.proofs.Terms.{AddsNode, AddsSum, All, IsFilled, List, Lit, Node, [], ap, arith, length, literals_of, map, node_signal, subst, sym, total, ◌++◌, ◌+◌, ◌<◌, ◌^◌, ◌∙◌, ◌∷◌, ◌≡◌}
 use Rattle.ncl_decomp.proofs.Sums.{AddsSum-then}
 use Rattle.ncl_decomp.proofs.Parts.{AddsNode-kept, AddsNode-sum, sum_signal, rows_room, rows_count, rows_filled, sum_room}
 use Rattle.ncl_decomp.proofs.wide.split_node.Goals as goal

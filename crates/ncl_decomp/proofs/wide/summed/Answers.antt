@@ -1,5 +1,5 @@
 use Rattle.std.proofs.Common.{arith}
-use Rattle.ncl_decomp.proofs.Terms.{terms_count}
+use Rattle.ncl_decomp.proofs.ProductTerms.{terms_count}
 use Rattle.ncl_decomp.proofs.Parts.{AddsSum-tree}
 use Rattle.ncl_decomp.proofs.wide.summed.Goals as goal
 

@@ -1,11 +1,5 @@
-use Rattle.std.proofs.Common.{◌≡◌, ℕ, ◌+◌, ◌<◌, List, [], ◌∷◌, ◌++◌, length, take, sym, ap, ◌∙◌, subst, arith}
-use Rattle.std.proofs.lemmas.List.{take_more}
-use Rattle.std.proofs.lemmas.Grind.{common_steps}
-use Rattle.ncl_network.specs.declared.network.Signal.{Signal}
-use Rattle.ncl_decomp.specs.declared.pair.Joint.TheVariants.{And}
-use Rattle.ncl_decomp.specs.Pairs.{AddsTree}
-use Rattle.ncl_decomp.specs.Splitting.{AddsTerms}
-use Rattle.ncl_decomp.proofs.Terms.{AddsTerms-none, AddsTerms-more, terms_room}
+use Rattle.ncl_decomp.proofs.Terms.{AddsTerms, AddsTree, And, List, Signal, [], ap, arith, common_steps, length, subst, sym, take, take_more, ℕ, ◌++◌, ◌+◌, ◌<◌, ◌∙◌, ◌∷◌, ◌≡◌}
+use Rattle.ncl_decomp.proofs.ProductTerms.{AddsTerms-none, AddsTerms-more, terms_room}
 use Rattle.ncl_decomp.proofs.wide.terms.Goals as goal
 
 pub loop-product-init : goal.loop-product-init

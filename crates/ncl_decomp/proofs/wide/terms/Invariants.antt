@@ -1,5 +1,4 @@
-use Rattle.std.proofs.Common.{take}
-use Rattle.ncl_decomp.specs.Splitting.{AddsTerms}
+use Rattle.ncl_decomp.proofs.Terms.{AddsTerms, take}
 use Rattle.ncl_decomp.proofs.wide.terms.Given as goal
 
 abbrev pub invariant-loop-product : goal.invariant-loop-product

@@ -1,8 +1,4 @@
-use Rattle.std.proofs.Common.{[], map, ap, ◌∙◌}
-use Rattle.std.proofs.lemmas.List.{take_all}
-use Rattle.indexmap.specs.IndexSet.{insert_all}
-use Rattle.ncl_netlist.specs.Names.{same_name}
-use Rattle.ncl_netlist.proofs.NameLists.{insert_all-none, insert_all-turn, once_each-AllDiffer}
+use Rattle.ncl_delay.proofs.Terms.{[], ap, insert_all, insert_all-none, insert_all-turn, map, once_each-AllDiffer, same_name, take_all, ◌∙◌}
 use Rattle.ncl_delay.proofs.delay_text.number_names.Goals as goal
 
 pub loop-cell-preserved : goal.loop-cell-preserved

@@ -1,11 +1,4 @@
-use Rattle.std.proofs.Common.{◌+◌, length, map, rules, sym, ap, subst, ◌∙◌, inl, inr, ⊎_elim}
-use Rattle.std.proofs.lemmas.List.{length-map}
-use Rattle.std.proofs.lemmas.Iterator.Consumers.{YieldsList-from_enumerate}
-use Rattle.std.proofs.lemmas.Iterator.Splits.{YieldsList-from_slice_split}
-use Rattle.std.proofs.lemmas.Result.{err_from_is_err_and}
-use Rattle.ncl_delay.specs.Lines.{is_feed, tells, numbered}
-use Rattle.ncl_delay.specs.DelayText.{cell_names, is_known, said_in, line_fault, fault_in, stated_delays}
-use Rattle.ncl_delay.specs.Put.{put_edges, unstated}
+use Rattle.ncl_delay.proofs.Terms.{YieldsList-from_enumerate, YieldsList-from_slice_split, ap, cell_names, err_from_is_err_and, fault_in, inl, inr, is_feed, is_known, length, length-map, line_fault, map, numbered, put_edges, rules, said_in, stated_delays, subst, sym, tells, unstated, ⊎_elim, ◌+◌, ◌∙◌}
 use Rattle.ncl_delay.proofs.Told.{Part, placed, told_of-tells, told_next, no_line}
 use Rattle.ncl_delay.proofs.DelayLines.{AreStated, stated-none, stated-more, stated-broken}
 use Rattle.ncl_delay.proofs.delay_text.read_delays.Goals as goal

@@ -1,5 +1,4 @@
-use Rattle.std.proofs.Common.{◌≡◌, length}
-use Rattle.ncl_delay.specs.Lines.{from_first}
+use Rattle.ncl_delay.proofs.Terms.{from_first, length, ◌≡◌}
 use Rattle.ncl_delay.proofs.lines.from_first.Given as goal
 
 abbrev pub invariant-loop-rest : goal.invariant-loop-rest

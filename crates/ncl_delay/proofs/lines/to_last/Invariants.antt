@@ -1,5 +1,4 @@
-use Rattle.std.proofs.Common.{◌≡◌, length, reverse}
-use Rattle.ncl_delay.specs.Lines.{from_first}
+use Rattle.ncl_delay.proofs.Terms.{from_first, length, reverse, ◌≡◌}
 use Rattle.ncl_delay.proofs.lines.to_last.Given as goal
 
 abbrev pub invariant-loop-rest : goal.invariant-loop-rest

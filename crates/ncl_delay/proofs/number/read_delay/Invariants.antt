@@ -1,7 +1,4 @@
-use Rattle.std.proofs.Common.{◌≡◌, true, take}
-use Rattle.std.specs.Char.{is_ascii_digit}
-use Rattle.std.specs.List.{list_all}
-use Rattle.std.specs.Str.Parse.{AllDigits, digits_value}
+use Rattle.ncl_delay.proofs.Terms.{AllDigits, digits_value, is_ascii_digit, list_all, take, true, ◌≡◌}
 use Rattle.ncl_delay.proofs.number.read_delay.Given as goal
 
 -- the bytes so far are digits, and the value is theirs

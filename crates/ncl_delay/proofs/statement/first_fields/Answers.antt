@@ -1,7 +1,4 @@
-use Rattle.std.proofs.Common.{length, take, filter, ltb, rules, ap, ◌∙◌}
-use Rattle.std.proofs.lemmas.Iterator.Splits.{YieldsList-from_slice_split}
-use Rattle.std.proofs.lemmas.Iterator.Consumers.{YieldsList-end}
-use Rattle.ncl_base.specs.TextLines.{is_blank}
+use Rattle.ncl_delay.proofs.Terms.{YieldsList-end, YieldsList-from_slice_split, ap, filter, is_blank, length, ltb, rules, take, ◌∙◌}
 use Rattle.ncl_delay.proofs.statement.first_fields.Goals as goal
 
 pub returns : goal.returns

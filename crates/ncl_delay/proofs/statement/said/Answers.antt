@@ -1,6 +1,4 @@
-use Rattle.std.proofs.Common.{map, sym, ap, ◌∙◌}
-use Rattle.ncl_base.specs.TextLines.{fields_of}
-use Rattle.ncl_delay.specs.DelayText.{stating}
+use Rattle.ncl_delay.proofs.Terms.{ap, fields_of, map, stating, sym, ◌∙◌}
 use Rattle.ncl_delay.proofs.Saying.{said-three, said-four}
 use Rattle.ncl_delay.proofs.statement.said.Goals as goal
 

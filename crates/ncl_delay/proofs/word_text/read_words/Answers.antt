@@ -1,9 +1,4 @@
-use Rattle.std.proofs.Common.{◌+◌, map, rules, sym, ap, subst, ◌∙◌, inr}
-use Rattle.std.proofs.lemmas.Iterator.Consumers.{YieldsList-from_enumerate}
-use Rattle.std.proofs.lemmas.Iterator.Splits.{YieldsList-from_slice_split}
-use Rattle.std.proofs.lemmas.Result.{err_from_is_err_and}
-use Rattle.ncl_delay.specs.Lines.{is_feed, tells, numbered}
-use Rattle.ncl_delay.specs.WordText.{word_fault, words_fault}
+use Rattle.ncl_delay.proofs.Terms.{YieldsList-from_enumerate, YieldsList-from_slice_split, ap, err_from_is_err_and, inr, is_feed, map, numbered, rules, subst, sym, tells, word_fault, words_fault, ◌+◌, ◌∙◌}
 use Rattle.ncl_delay.proofs.Told.{Part, placed, told_of-tells, told_next, no_line}
 use Rattle.ncl_delay.proofs.WordLines.{AreWords, words-more, words-broken}
 use Rattle.ncl_delay.proofs.word_text.read_words.Goals as goal

@@ -1,4 +1,4 @@
-use Rattle.std.proofs.Common.{◌≡◌, ◌+◌, [], ◌∷◌, ◌++◌, sym, subst, arith}
+use Rattle.std.proofs.Common.{◌≡◌, ◌+◌, sym, subst, arith}
 use Rattle.ncl_demo.proofs.Joining.{Row, row_more, are_models, is_adder, can_be_compiled}
 use Rattle.ncl_demo.proofs.models.demo_models.Goals as goal
 

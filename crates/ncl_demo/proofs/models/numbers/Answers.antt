@@ -1,6 +1,4 @@
-use Rattle.std.proofs.Common.{Ok, refl}
-use Rattle.std.specs.declared.alloc.AllocError.{AllocError}
-use Rattle.std.proofs.lemmas.Iterator.{YieldsList-from_range, items_from_collect}
+use Rattle.ncl_demo.proofs.Terms.{AllocError, Ok, YieldsList-from_range, items_from_collect, refl}
 use Rattle.ncl_demo.proofs.models.numbers.Goals as goal
 
 pub returns : goal.returns

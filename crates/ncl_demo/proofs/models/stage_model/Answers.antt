@@ -1,6 +1,4 @@
-use Rattle.std.proofs.Common.{◌≡◌, ◌≢◌, ℕ, ◌+◌, ◌-◌, ◌*◌, ◌⊎◌, [], ◌∷◌, inl, inr, refl, sym, ap, ◌∙◌, arith}
-use Rattle.ncl_demo.specs.declared.covers.TheConstants.{HALF_CARRY, HALF_SUM, FULL_CARRY, FULL_SUM}
-use Rattle.ncl_demo.specs.Covers.{covers_of}
+use Rattle.ncl_demo.proofs.Terms.{FULL_CARRY, FULL_SUM, HALF_CARRY, HALF_SUM, [], ap, covers_of, inl, inr, refl, ℕ, ◌*◌, ◌+◌, ◌-◌, ◌∙◌, ◌∷◌, ◌≡◌, ◌≢◌, ◌⊎◌}
 use Rattle.ncl_demo.proofs.Staging.{Serves, stage_serves}
 use Rattle.ncl_demo.proofs.models.stage_model.Goals as goal
 use Rattle.ncl_demo.proofs.models.stage_model.Goals.{then-stage-eq0+in_ok-covers, else-stage-eq0+in_ok-covers-2}

@@ -1,9 +1,5 @@
-use Rattle.std.proofs.Common.{◌≡◌, ◌+◌, ◌*◌, Bool, List, [], ◌∷◌, ◌++◌, map, length, sym, ap, ◌∙◌, subst, arith}
-use Rattle.std.specs.Prelude.{All}
-use Rattle.std.specs.List.{range_with_len}
-use Rattle.std.proofs.lemmas.List.FromFn.{map-range_with_len_more}
-use Rattle.std.proofs.lemmas.List.Elements.{All-push}
-use Rattle.ncl_demo.specs.Offered.{demo_words, demo_word}
+use Rattle.ncl_demo.specs.Offered.{demo_words}
+use Rattle.ncl_demo.proofs.Terms.{All, All-push, Bool, List, [], ap, arith, demo_word, length, map, map-range_with_len_more, range_with_len, subst, sym, ◌*◌, ◌++◌, ◌+◌, ◌∙◌, ◌∷◌, ◌≡◌}
 use Rattle.ncl_demo.proofs.words.demo_words.Goals as goal
 
 pub returns-clause-words : goal.returns-clause-words

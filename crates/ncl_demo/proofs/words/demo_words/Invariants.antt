@@ -1,7 +1,4 @@
-use Rattle.std.proofs.Common.{◌≡◌, ◌*◌, map, length}
-use Rattle.std.specs.Prelude.{All}
-use Rattle.std.specs.List.{range_with_len}
-use Rattle.ncl_demo.specs.Offered.{demo_word}
+use Rattle.ncl_demo.proofs.Terms.{All, demo_word, length, map, range_with_len, ◌*◌, ◌≡◌}
 use Rattle.ncl_demo.proofs.words.demo_words.Given as goal
 
 abbrev pub invariant-loop-place : goal.invariant-loop-place

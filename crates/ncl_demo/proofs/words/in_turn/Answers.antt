@@ -1,6 +1,4 @@
-use Rattle.std.proofs.Common.{◌≡◌, [], ◌∷◌, ◌++◌, length, sym, ap, ◌∙◌, arith}
-use Rattle.std.proofs.lemmas.List.{append_assoc, length_push}
-use Rattle.ncl_demo.specs.Offered.{bit_of}
+use Rattle.ncl_demo.proofs.Terms.{[], ap, append_assoc, arith, bit_of, length, length_push, sym, ◌++◌, ◌∙◌, ◌∷◌, ◌≡◌}
 use Rattle.ncl_demo.proofs.Carrying.{in_turn_more}
 use Rattle.ncl_demo.proofs.words.in_turn.Goals as goal
 

@@ -1,5 +1,4 @@
-use Rattle.std.proofs.Common.{◌≡◌, ◌*◌, length}
-use Rattle.ncl_demo.specs.Offered.{in_turn}
+use Rattle.ncl_demo.proofs.Terms.{in_turn, length, ◌*◌, ◌≡◌}
 use Rattle.ncl_demo.proofs.words.in_turn.Given as goal
 
 abbrev pub invariant-loop-place : goal.invariant-loop-place

@@ -1,5 +1,4 @@
-use Rattle.std.proofs.Common.{refl}
-use Rattle.std.proofs.lemmas.Option.{slice_get-get_or}
+use Rattle.ncl_diagram.proofs.Terms.{refl, slice_get-get_or}
 use Rattle.ncl_diagram.proofs.KeyLaws.{free_end, put_next, put_none}
 use Rattle.ncl_diagram.proofs.keys.filled.Goals as goal
 

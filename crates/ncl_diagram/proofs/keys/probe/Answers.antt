@@ -1,5 +1,4 @@
-use Rattle.std.proofs.Common.{sym, ◌∙◌}
-use Rattle.std.proofs.lemmas.Option.{slice_get-get_or}
+use Rattle.ncl_diagram.proofs.Terms.{slice_get-get_or, sym, ◌∙◌}
 use Rattle.ncl_diagram.proofs.KeyLaws.{other_key, walked_first, walked_on}
 use Rattle.ncl_diagram.proofs.keys.probe.Goals as goal
 

@@ -1,8 +1,4 @@
-use Rattle.std.proofs.Common.{List, set, slice_get, sym, ◌∙◌, ap, refl, subst, arith}
-use Rattle.ncl_base.proofs.Places.{slice_get-end}
-use Rattle.ncl_diagram.specs.declared.keys.Bucket.{Bucket}
-use Rattle.ncl_diagram.specs.declared.memo.Key.{Key}
-use Rattle.ncl_diagram.specs.Keys.{IsTable}
+use Rattle.ncl_diagram.proofs.Terms.{Bucket, IsTable, Key, List, ap, arith, refl, set, slice_get, slice_get-end, subst, sym, ◌∙◌}
 use Rattle.ncl_diagram.proofs.KeyLaws.{table_push}
 use Rattle.ncl_diagram.proofs.MemoLaws.{short}
 use Rattle.ncl_diagram.proofs.keys.put.Goals as goal

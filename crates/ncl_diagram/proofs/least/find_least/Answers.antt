@@ -1,8 +1,4 @@
-use Rattle.std.proofs.Common.{◌≡◌, ◌≢◌, ◌+◌, ℕ, Bool, List, Option, true, false, not, sym, subst, ap, ◌∙◌, arith}
-use Rattle.ncl_space.specs.declared.space.Ref.{Ref}
-use Rattle.ncl_space.specs.Functions.{least}
-use Rattle.ncl_diagram.specs.declared.nodes.Node.{Node}
-use Rattle.ncl_diagram.specs.Nodes.{branch, child, constant_place, table_from}
+use Rattle.ncl_diagram.proofs.Terms.{Bool, List, Node, Option, Ref, ap, arith, branch, child, constant_place, false, least, not, subst, sym, table_from, true, ℕ, ◌+◌, ◌∙◌, ◌≡◌, ◌≢◌}
 use Rattle.ncl_diagram.proofs.Joining.{branch_at}
 use Rattle.ncl_diagram.proofs.LeastLaws.{Walks, least-constant, walks_end, walks_high, walks_low}
 use Rattle.ncl_diagram.proofs.Rails.{table_from-constant}

@@ -1,5 +1,4 @@
-use Rattle.ncl_space.specs.Functions.{least}
-use Rattle.ncl_diagram.specs.Nodes.{table_from}
+use Rattle.ncl_diagram.proofs.Terms.{least, table_from}
 use Rattle.ncl_diagram.proofs.LeastLaws.{Walks}
 use Rattle.ncl_diagram.proofs.least.find_least.Given as goal
 

@@ -1,10 +1,4 @@
-use Rattle.std.proofs.Common.{◌≡◌, Bool, true, [], ◌∷◌, inl, inr, sym, ◌∙◌, arith}
-use Rattle.std.specs.List.{list_all}
-use Rattle.ncl_gates.specs.declared.kind.Kind.{Kind}
-use Rattle.ncl_gates.specs.Gate.{set_of}
-use Rattle.ncl_gates.proofs.BitLaws.{is_set-masked, is_set-masked_off}
-use Rattle.ncl_diagram.specs.Memo.{places}
-use Rattle.ncl_diagram.specs.Operands.{only_one}
+use Rattle.ncl_diagram.proofs.Terms.{Bool, Kind, [], arith, inl, inr, is_set-masked, is_set-masked_off, list_all, only_one, places, set_of, sym, true, ◌∙◌, ◌∷◌, ◌≡◌}
 use Rattle.ncl_diagram.proofs.operation.stop.Goals as goal
 
 -- the gate at four values that are four others

@@ -1,9 +1,5 @@
-use denote.Enum.Declared.{tag_of}
-use Rattle.std.proofs.Common.{◌≡◌, ◌+◌, refl}
-use Rattle.ncl_gates.specs.contracts.kind.Kind.{the_type}
-use Rattle.ncl_gates.specs.declared.kind.Kind.{Kind}
-use Rattle.ncl_gates.specs.declared.kind.Kind.TheVariants.{Th12}
 use Rattle.ncl_diagram.specs.Slot.{gates, kind_number}
+use Rattle.ncl_diagram.proofs.Terms.{Kind, Th12, refl, tag_of, the_type, ◌+◌, ◌≡◌}
 use Rattle.ncl_diagram.proofs.slot.kind_number.Goals as goal
 
 -- the number by which the program knows a gate is one less

@@ -1,9 +1,4 @@
-use Rattle.std.proofs.Common.{true, [], ◌∷◌, refl}
-use Rattle.ncl_gates.specs.declared.kind.Kind.TheVariants.{Th12}
-use Rattle.ncl_shape.specs.Examples.{rails}
-use Rattle.ncl_faults.specs.Faults.{BothRails}
-use Rattle.ncl_verdict.proofs.Computed.{judgement-computes}
-use Rattle.ncl_faulty.specs.Examples.{gate_stage, with_both_rails}
+use Rattle.ncl_faulty.proofs.Terms.{BothRails, Th12, [], gate_stage, judgement-computes, rails, refl, true, with_both_rails, ◌∷◌}
 use Rattle.ncl_faulty.proofs.Shapes.{both_rails_shape}
 use Rattle.ncl_faulty.proofs.FirstStages.{first_wrong, first_sensitive}
 use Rattle.ncl_faulty.proofs.examples.both_rails.Goals as goal

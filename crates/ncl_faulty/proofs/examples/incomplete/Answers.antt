@@ -1,7 +1,4 @@
-use Rattle.std.proofs.Common.{false, [], ◌∷◌, refl}
-use Rattle.ncl_faults.specs.Faults.{Incomplete}
-use Rattle.ncl_verdict.proofs.Computed.{judgement-computes}
-use Rattle.ncl_faulty.specs.Examples.{eager_stage, with_eager_and}
+use Rattle.ncl_faulty.proofs.Terms.{Incomplete, [], eager_stage, false, judgement-computes, refl, with_eager_and, ◌∷◌}
 use Rattle.ncl_faulty.proofs.Shapes.{eager_and_shape}
 use Rattle.ncl_faulty.proofs.FirstStages.{first_wrong, first_sensitive}
 use Rattle.ncl_faulty.proofs.examples.incomplete.Goals as goal

@@ -1,9 +1,4 @@
-use Rattle.std.proofs.Common.{false, [], ◌∷◌, refl}
-use Rattle.ncl_gates.specs.declared.kind.Kind.TheVariants.{Th12}
-use Rattle.ncl_shape.specs.Examples.{rails}
-use Rattle.ncl_faults.specs.Faults.{Orphan}
-use Rattle.ncl_verdict.proofs.Computed.{judgement-computes}
-use Rattle.ncl_faulty.specs.Examples.{gate_stage, with_orphan}
+use Rattle.ncl_faulty.proofs.Terms.{Orphan, Th12, [], false, gate_stage, judgement-computes, rails, refl, with_orphan, ◌∷◌}
 use Rattle.ncl_faulty.proofs.Shapes.{orphan_shape}
 use Rattle.ncl_faulty.proofs.FirstStages.{first_wrong, first_sensitive}
 use Rattle.ncl_faulty.proofs.examples.orphan.Goals as goal

@@ -1,7 +1,4 @@
-use Rattle.std.proofs.Common.{refl}
-use Rattle.ncl_verdict.proofs.Computed.{judgement-computes}
-use Rattle.ncl_refusal.proofs.Exact.{reached-insensitive}
-use Rattle.ncl_faulty.specs.Examples.{twins}
+use Rattle.ncl_faulty.proofs.Terms.{judgement-computes, reached-insensitive, refl, twins}
 use Rattle.ncl_faulty.proofs.Shapes.{twins_shape}
 use Rattle.ncl_faulty.proofs.Twins.{twins_reached}
 use Rattle.ncl_faulty.proofs.examples.unreached_fault.Goals as goal

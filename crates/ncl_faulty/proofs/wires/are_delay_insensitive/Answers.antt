@@ -1,14 +1,5 @@
-use Rattle.std.proofs.Common.{[], ◌∷◌, inl, inr, refl, subst}
-use Rattle.std.specs.Prelude.{All}
-use Rattle.ncl_base.proofs.Members.{All-from_members, member_cases}
-use Rattle.ncl_shape.specs.Stage.{StageData}
-use Rattle.ncl_shape.specs.Examples.{rails, wires, wires_pipeline}
-use Rattle.ncl_faults.specs.Examples.{stage}
-use Rattle.ncl_faults.specs.Faults.{IsSound}
-use Rattle.ncl_faults.proofs.StageTest.{IsStage-from_test}
-use Rattle.ncl_insensitivity.proofs.WiresSound.{wires_sound}
+use Rattle.ncl_faulty.proofs.Terms.{All, All-from_members, IsSound, IsStage-from_test, StageData, [], delay_insensitive, inl, inr, member_cases, rails, refl, stage, subst, wires, wires_pipeline, wires_sound, ◌∷◌}
 use Rattle.ncl_faulty.proofs.WiresShape.{wires_shape}
-use Rattle.ncl_insensitivity.proofs.Headline.{delay_insensitive}
 use Rattle.ncl_faulty.proofs.wires.are_delay_insensitive.Goals as goal
 
 abbrev wires_stage : StageData

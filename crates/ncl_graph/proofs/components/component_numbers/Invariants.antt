@@ -1,5 +1,4 @@
-use Rattle.std.proofs.Common.{◌≡◌, length}
-use Rattle.ncl_graph.specs.Ranks.{IsWhole}
+use Rattle.ncl_graph.proofs.Terms.{IsWhole, length, ◌≡◌}
 use Rattle.ncl_graph.proofs.components.component_numbers.Given as goal
 
 abbrev pub invariant-loop-place : goal.invariant-loop-place

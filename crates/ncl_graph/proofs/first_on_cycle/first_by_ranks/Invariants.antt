@@ -1,5 +1,4 @@
-use Rattle.std.proofs.Common.{ℕ, ◌<◌}
-use Rattle.ncl_graph.specs.Graph.{IsOnCycle}
+use Rattle.ncl_graph.proofs.Terms.{IsOnCycle, ℕ, ◌<◌}
 use Rattle.ncl_graph.proofs.first_on_cycle.first_by_ranks.Given as goal
 
 abbrev pub invariant-loop-place : goal.invariant-loop-place

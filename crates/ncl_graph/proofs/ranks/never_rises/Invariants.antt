@@ -1,7 +1,4 @@
-use Rattle.std.proofs.Common.{ℕ, ◌<◌, ◌≤◌}
-use Rattle.std.specs.List.{Contains}
-use Rattle.ncl_graph.specs.Graph.{successors}
-use Rattle.ncl_graph.specs.Ranks.{rank_of}
+use Rattle.ncl_graph.proofs.Terms.{Contains, rank_of, successors, ℕ, ◌<◌, ◌≤◌}
 use Rattle.ncl_graph.proofs.ranks.never_rises.Given as goal
 
 abbrev pub invariant-loop-place : goal.invariant-loop-place

@@ -1,7 +1,4 @@
-use Rattle.std.proofs.Common.{◌≡◌, ℕ, ◌<◌, ◌≤◌}
-use Rattle.std.specs.List.{slice_index_or}
-use Rattle.ncl_graph.specs.declared.mark.Mark.TheVariants.{Done}
-use Rattle.ncl_graph.specs.Search.{mark_at}
+use Rattle.ncl_graph.proofs.Terms.{Done, mark_at, slice_index_or, ℕ, ◌<◌, ◌≡◌, ◌≤◌}
 use Rattle.ncl_graph.proofs.search.first_undone.Given as goal
 
 abbrev pub invariant-loop-k : goal.invariant-loop-k

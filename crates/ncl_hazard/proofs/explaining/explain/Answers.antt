@@ -1,16 +1,4 @@
-use Rattle.std.proofs.Common.{◌≡◌, ℕ, ◌-◌, ◌≤◌, Err, Some, List, [], ◌∷◌, get_or, sym, ap, ◌∙◌, subst}
-use Rattle.std.specs.Prelude.{slice_get}
-use Rattle.std.proofs.lemmas.Option.{slice_get_within}
-use Rattle.ncl_base.proofs.Places.{no_entry}
-use Rattle.ncl_netlist.specs.declared.ids.CellId.{CellId}
-use Rattle.ncl_shape.specs.Stage.{StageData}
-use Rattle.ncl_shape.specs.Pipeline.{PipelineData}
-use Rattle.ncl_space.proofs.MakingLaws.{handed_on}
-use Rattle.ncl_machine.specs.State.{reset}
-use Rattle.ncl_hazard.specs.declared.explaining.Explained.{Explained}
-use Rattle.ncl_hazard.specs.Why.{why_count}
-use Rattle.ncl_hazard.specs.Trying.{Loses}
-use Rattle.ncl_hazard.specs.Explained.{IsExplained, IsPlaceOf, StandsAt, TellsOfCell}
+use Rattle.ncl_hazard.proofs.Terms.{CellId, Err, Explained, IsExplained, IsPlaceOf, List, Loses, PipelineData, Some, StageData, StandsAt, TellsOfCell, [], ap, get_or, handed_on, no_entry, reset, slice_get, slice_get_within, subst, sym, why_count, ℕ, ◌-◌, ◌∙◌, ◌∷◌, ◌≡◌, ◌≤◌}
 use Rattle.ncl_hazard.proofs.InputLaws.{stage-at}
 use Rattle.ncl_hazard.proofs.OrphanPlaces.{stands-somewhere}
 use Rattle.ncl_hazard.proofs.ShownLaws.{brings-least}

@@ -1,6 +1,4 @@
-use Rattle.std.proofs.Common.{◌≡◌, ℕ, ◌<◌, false, get_or}
-use Rattle.std.specs.Prelude.{nat_eq}
-use Rattle.ncl_shape.specs.declared.stage.StageCell.{StageCell}
+use Rattle.ncl_hazard.proofs.Terms.{StageCell, false, get_or, nat_eq, ℕ, ◌<◌, ◌≡◌}
 use Rattle.ncl_hazard.proofs.explaining.place_of.Given as goal
 
 -- none of the gates so far is the cell

@@ -1,12 +1,4 @@
-use Rattle.std.proofs.Common.{◌≡◌, ◌≢◌, ◌+◌, ◌++◌, [], ◌∷◌, sym, ◌∙◌, subst, rules}
-use Rattle.std.specs.Prelude.{All, IfOk}
-use Rattle.ncl_shape.specs.declared.item.Item.{Item}
-use Rattle.ncl_shape.specs.declared.item.Item.TheVariants.{Cell as Fire}
-use Rattle.ncl_machine.specs.Held.{InRange, meaning}
-use Rattle.ncl_machine.specs.State.{State, reset}
-use Rattle.ncl_machine.specs.Steps.{enabled}
-use Rattle.ncl_hazard.specs.Schedule.{coming, going}
-use Rattle.ncl_hazard.specs.Trying.{Loses, tried}
+use Rattle.ncl_hazard.proofs.Terms.{All, Fire, IfOk, InRange, Item, Loses, State, [], coming, enabled, going, meaning, reset, rules, subst, sym, tried, ◌++◌, ◌+◌, ◌∙◌, ◌∷◌, ◌≡◌, ◌≢◌}
 use Rattle.ncl_hazard.proofs.ShownLaws.{all-comes, cell-within, coming-all, going-all, order-of}
 use Rattle.ncl_hazard.proofs.explaining.shown_run.Goals as goal
 

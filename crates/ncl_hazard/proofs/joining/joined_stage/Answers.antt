@@ -1,10 +1,5 @@
-use Rattle.std.proofs.Common.{◌≡◌, ℕ, ◌+◌, ◌<◌, ◌≤◌, All, List, Some, length, get_or, map, sym, ap, ◌∙◌, subst, arith}
-use Rattle.std.specs.Prelude.{slice_get}
-use Rattle.std.proofs.lemmas.Option.{slice_get-get_or}
-use Rattle.ncl_shape.specs.declared.rails.Rails.{Rails}
-use Rattle.ncl_shape.specs.Stage.{StageData, IsStage, rail_nets}
-use Rattle.ncl_shape.specs.Pipeline.{PipelineData}
-use Rattle.ncl_hazard.specs.Joined.{rails_as, name_in, names_after, outputs_after}
+use Rattle.ncl_hazard.proofs.Terms.{IsStage, List, PipelineData, Rails, Some, StageData, ap, arith, get_or, length, map, name_in, names_after, outputs_after, rail_nets, rails_as, slice_get, slice_get-get_or, subst, sym, ℕ, ◌+◌, ◌<◌, ◌∙◌, ◌≡◌, ◌≤◌}
+use Rattle.std.proofs.Common.{All}
 use Rattle.ncl_hazard.proofs.JoiningLaws.{names-next, cells-next, outputs-next, rails-within, as-many, is_stage-of, parts-are}
 use Rattle.ncl_hazard.proofs.joining.joined_stage.Goals as goal
 

@@ -1,8 +1,4 @@
-use Rattle.std.proofs.Common.{◌≡◌, ℕ, ◌+◌, ◌-◌, ◌<◌, List, length, get_or, set, drop, length-set, sym, ap, ◌∙◌, subst, arith}
-use Rattle.ncl_netlist.specs.declared.ids.NetId.{NetId}
-use Rattle.ncl_shape.specs.declared.rails.Rails.{Rails}
-use Rattle.ncl_machine.proofs.RailPlaces.{zero_at, one_at}
-use Rattle.ncl_hazard.specs.Joined.{name_in, replaced}
+use Rattle.ncl_hazard.proofs.Terms.{List, NetId, Rails, ap, arith, drop, get_or, length, length-set, name_in, one_at, replaced, set, subst, sym, zero_at, ℕ, ◌+◌, ◌-◌, ◌<◌, ◌∙◌, ◌≡◌}
 use Rattle.ncl_hazard.proofs.JoiningLaws.{replaced-turn}
 use Rattle.ncl_hazard.proofs.joining.rename.Goals as goal
 

@@ -1,5 +1,4 @@
-use Rattle.std.proofs.Common.{◌≡◌, ℕ, map, take}
-use Rattle.ncl_hazard.specs.Schedule.{fires}
+use Rattle.ncl_hazard.proofs.Terms.{fires, map, take, ℕ, ◌≡◌}
 use Rattle.ncl_hazard.proofs.schedule.all_items.Given as goal
 
 -- the cells so far

@@ -1,10 +1,4 @@
-use Rattle.std.proofs.Common.{◌≡◌, ℕ, ◌+◌, ◌-◌, ◌++◌, List, length, take, drop, sym, ap, ◌∙◌, arith}
-use Rattle.std.proofs.lemmas.List.{length-drop, take_all}
-use Rattle.ncl_base.proofs.Places.{place_read}
-use Rattle.ncl_shape.specs.declared.bank.Bank.{Bank}
-use Rattle.ncl_shape.specs.declared.bank.Bit.{Bit}
-use Rattle.ncl_netlist.specs.declared.ids.CellId.{CellId}
-use Rattle.ncl_hazard.specs.Schedule.{fires, gates_of, is_cell, reaching, registers_of}
+use Rattle.ncl_hazard.proofs.Terms.{Bank, Bit, CellId, List, ap, arith, drop, fires, gates_of, is_cell, length, length-drop, place_read, reaching, registers_of, sym, take, take_all, ℕ, ◌++◌, ◌+◌, ◌-◌, ◌∙◌, ◌≡◌}
 use Rattle.ncl_hazard.proofs.ScheduleLaws.{lacking-is}
 use Rattle.ncl_hazard.proofs.schedule.lacking_items.Goals as goal
 

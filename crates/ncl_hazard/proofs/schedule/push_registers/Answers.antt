@@ -1,6 +1,4 @@
-use Rattle.std.proofs.Common.{◌≡◌, ◌<◌, ◌++◌, ◌∷◌, [], List, length, get_or, None, ap, ◌∙◌, subst}
-use Rattle.ncl_shape.specs.declared.bank.Bit.{Bit}
-use Rattle.ncl_shape.specs.declared.item.Item.TheVariants.{Cell as Fire}
+use Rattle.ncl_hazard.proofs.Terms.{Bit, Fire, List, None, [], ap, get_or, ◌++◌, ◌∙◌, ◌∷◌}
 use Rattle.ncl_hazard.proofs.ScheduleLaws.{registers-more}
 use Rattle.ncl_hazard.proofs.schedule.push_registers.Goals as goal
 

@@ -1,13 +1,4 @@
-use Rattle.std.proofs.Common.{◌≡◌, ℕ, suc, ◌+◌, ◌-◌, ◌<◌, ◌≤◌, length, sym, ap, ◌∙◌, subst, arith}
-use Rattle.std.proofs.lemmas.Result.{IfOk-weaker}
-use Rattle.ncl_base.proofs.Members.{slice_get-some}
-use Rattle.ncl_shape.specs.Stage.{StageData}
-use Rattle.ncl_shape.specs.Pipeline.{PipelineData}
-use Rattle.ncl_faults.specs.Faults.{Orphan}
-use Rattle.ncl_stage.specs.LeastWords.{least_word_by}
-use Rattle.ncl_hazard.specs.Joined.{joined, joined_cells}
-use Rattle.ncl_hazard.specs.Search.{ascending, made_count}
-use Rattle.ncl_hazard.specs.Why.{least_input, why_count}
+use Rattle.ncl_hazard.proofs.Terms.{IfOk-weaker, Orphan, PipelineData, StageData, ap, arith, ascending, joined, joined_cells, least_input, least_word_by, length, made_count, slice_get-some, subst, suc, sym, why_count, ℕ, ◌+◌, ◌-◌, ◌<◌, ◌∙◌, ◌≡◌, ◌≤◌}
 use Rattle.ncl_hazard.proofs.InputLaws.{joined-long, same-input, same-count, stage-at}
 use Rattle.ncl_hazard.proofs.SearchLaws.{OnOk-more}
 use Rattle.ncl_hazard.proofs.search.least_bringing.Goals as goal

@@ -1,15 +1,5 @@
-use Rattle.std.proofs.Common.{◌≡◌, ℕ, ◌≤◌, true, false, Err, List, length, ◌∙◌, ap, subst}
-use Rattle.std.specs.List.{range_with_len}
-use Rattle.std.proofs.lemmas.Result.{IfOk-weaker}
-use Rattle.ncl_shape.specs.Stage.{StageData}
-use Rattle.ncl_space.specs.Space.{SpaceData, fits}
-use Rattle.ncl_space.proofs.MakingLaws.{handed_on}
-use Rattle.ncl_diagram.specs.Diagram.{diagram_space}
+use Rattle.ncl_hazard.proofs.Terms.{Err, IfOk-weaker, List, Orphan, SpaceData, StageData, ap, ascending, diagram_space, false, fits, handed_on, least_word_by, length, made_count, range_with_len, subst, tables_by, true, ℕ, ◌∙◌, ◌≡◌, ◌≤◌}
 use Rattle.ncl_faults.specs.declared.variant.Variant.TheVariants.{Cell}
-use Rattle.ncl_faults.specs.Faults.{Orphan}
-use Rattle.ncl_stage.specs.LeastWords.{least_word_by}
-use Rattle.ncl_stage.specs.Tables.{tables_by}
-use Rattle.ncl_hazard.specs.Search.{ascending, made_count}
 use Rattle.ncl_hazard.proofs.SearchLaws.{nets_over, all_over, all_few, OnOk-more}
 use Rattle.ncl_hazard.proofs.search.least_showing.Goals as goal
 

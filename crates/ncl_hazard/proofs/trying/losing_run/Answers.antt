@@ -1,9 +1,4 @@
-use Rattle.std.proofs.Common.{◌≡◌, ◌++◌, [], false, take, get_or, sym, ◌∙◌, ap, subst}
-use Rattle.ncl_shape.specs.declared.item.Item.{Item}
-use Rattle.ncl_shape.specs.declared.item.Item.TheVariants.{Cell as Fire}
-use Rattle.ncl_machine.specs.Held.{meaning}
-use Rattle.ncl_machine.specs.Steps.{enabled}
-use Rattle.ncl_hazard.specs.Trying.{turned, happened, Loses}
+use Rattle.ncl_hazard.proofs.Terms.{Fire, Item, Loses, ap, enabled, false, get_or, happened, meaning, subst, sym, take, turned, ◌++◌, ◌∙◌, ◌≡◌}
 use Rattle.ncl_hazard.proofs.Tries.{has_tried-all, has_tried-next, loses-now}
 use Rattle.ncl_hazard.proofs.trying.losing_run.Goals as goal
 

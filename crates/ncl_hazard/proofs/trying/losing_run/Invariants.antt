@@ -1,7 +1,4 @@
-use Rattle.std.proofs.Common.{◌≡◌, true, [], ◌++◌, take}
-use Rattle.ncl_shape.specs.declared.item.Item.TheVariants.{Cell as Fire}
-use Rattle.ncl_machine.specs.Held.{IsFor, meaning}
-use Rattle.ncl_machine.specs.Steps.{enabled}
+use Rattle.ncl_hazard.proofs.Terms.{Fire, IsFor, enabled, meaning, take, true, ◌++◌, ◌≡◌}
 use Rattle.ncl_hazard.proofs.Tries.{HasTried}
 use Rattle.ncl_hazard.proofs.trying.losing_run.Given as goal
 

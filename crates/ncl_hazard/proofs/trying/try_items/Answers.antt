@@ -1,6 +1,4 @@
-use Rattle.std.proofs.Common.{get_or}
-use Rattle.ncl_shape.specs.declared.item.Item.TheVariants.{Cell as Fire}
-use Rattle.ncl_machine.specs.Held.{meaning}
+use Rattle.ncl_hazard.proofs.Terms.{Fire, meaning}
 use Rattle.ncl_hazard.proofs.Tries.{tried-next, happened-next}
 use Rattle.ncl_hazard.proofs.trying.try_items.Goals as goal
 

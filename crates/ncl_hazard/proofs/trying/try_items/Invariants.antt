@@ -1,6 +1,4 @@
-use Rattle.std.proofs.Common.{◌≡◌, ◌++◌, take}
-use Rattle.ncl_machine.specs.Held.{IsFor, meaning}
-use Rattle.ncl_hazard.specs.Trying.{tried, happened}
+use Rattle.ncl_hazard.proofs.Terms.{IsFor, happened, meaning, take, tried, ◌++◌, ◌≡◌}
 use Rattle.ncl_hazard.proofs.trying.try_items.Given as goal
 
 -- the first items were tried

@@ -1,8 +1,4 @@
-use Rattle.std.proofs.Common.{◌≡◌, ◌+◌, ◌<◌, Bool, drop, length, sym, ◌∙◌, arith}
-use Rattle.ncl_shape.specs.declared.rails.Rails.{Rails}
-use Rattle.ncl_faults.specs.Faults.{has_data}
-use Rattle.ncl_machine.specs.Held.{net_values}
-use Rattle.ncl_machine.specs.Tallies.{count_of}
+use Rattle.ncl_machine.proofs.Terms.{Bool, Rails, arith, count_of, drop, has_data, length, net_values, sym, ◌+◌, ◌<◌, ◌∙◌, ◌≡◌}
 use Rattle.ncl_machine.proofs.Counts.{count-few}
 use Rattle.ncl_machine.proofs.CountSteps.{count-passed, count-failed, count-past}
 use Rattle.ncl_machine.proofs.RailPlaces.{zero_at, one_at}

@@ -1,8 +1,4 @@
-use Rattle.std.proofs.Common.{◌<◌, length, take, set, get_or, Some, length-set, sym, ap, ◌∙◌, subst, arith}
-use Rattle.std.specs.Option.{option_or}
-use Rattle.std.proofs.lemmas.List.{take_more}
-use Rattle.ncl_shape.specs.declared.rails.Rails.{Rails}
-use Rattle.ncl_machine.specs.Tallies.{mate_of, mate_in}
+use Rattle.ncl_machine.proofs.Terms.{Rails, Some, ap, arith, get_or, length, length-set, mate_in, mate_of, option_or, set, subst, sym, take, take_more, ◌<◌, ◌∙◌}
 use Rattle.ncl_machine.proofs.Mates.{mate_in-push, mates-put}
 use Rattle.ncl_machine.proofs.RailPlaces.{zero_at, one_at}
 use Rattle.ncl_machine.proofs.levels.mates_of.Goals as goal

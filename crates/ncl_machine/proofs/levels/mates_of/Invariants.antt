@@ -1,5 +1,4 @@
-use Rattle.std.proofs.Common.{◌≡◌, ℕ, length, take, get_or, None}
-use Rattle.ncl_machine.specs.Tallies.{mate_in}
+use Rattle.ncl_machine.proofs.Terms.{None, get_or, length, mate_in, take, ℕ, ◌≡◌}
 use Rattle.ncl_machine.proofs.levels.mates_of.Given as goal
 
 abbrev pub invariant-loop-bit : goal.invariant-loop-bit

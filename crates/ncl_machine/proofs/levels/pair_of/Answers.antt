@@ -1,8 +1,5 @@
-use Rattle.std.proofs.Common.{◌≡◌, ◌<◌, length, take, ap, ◌∙◌}
+use Rattle.ncl_machine.proofs.Terms.{Rails, ap, length, net_values, take, take_all, ◌<◌, ◌∙◌, ◌≡◌}
 use Rattle.std.specs.Prelude.{map}
-use Rattle.std.proofs.lemmas.List.{take_all}
-use Rattle.ncl_shape.specs.declared.rails.Rails.{Rails}
-use Rattle.ncl_machine.specs.Held.{net_values}
 use Rattle.ncl_machine.proofs.RailPlaces.{zero_at, one_at}
 use Rattle.ncl_machine.proofs.levels.pair_of.Goals as goal
 

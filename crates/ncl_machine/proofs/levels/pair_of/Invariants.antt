@@ -1,6 +1,4 @@
-use Rattle.std.proofs.Common.{◌≡◌, take, map}
-use Rattle.ncl_shape.specs.declared.rails.Rails.{Rails}
-use Rattle.ncl_machine.specs.Held.{net_values}
+use Rattle.ncl_machine.proofs.Terms.{Rails, map, net_values, take, ◌≡◌}
 use Rattle.ncl_machine.proofs.levels.pair_of.Given as goal
 
 abbrev pub invariant-loop-bit : goal.invariant-loop-bit

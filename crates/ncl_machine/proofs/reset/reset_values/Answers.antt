@@ -1,6 +1,4 @@
-use Rattle.std.proofs.Common.{length, drop, ap, ◌∙◌, arith}
-use Rattle.std.proofs.lemmas.List.{take_at}
-use Rattle.ncl_machine.specs.Held.{net_values}
+use Rattle.ncl_machine.proofs.Terms.{ap, arith, drop, length, net_values, take_at, ◌∙◌}
 use Rattle.ncl_machine.proofs.reset.reset_values.Goals as goal
 
 pub returns-clause-values : goal.returns-clause-values

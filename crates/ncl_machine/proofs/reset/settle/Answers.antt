@@ -1,8 +1,4 @@
-use Rattle.std.proofs.Common.{◌≡◌, ◌<◌, Bool, true, false, ◌||◌, length, cond, refl, ap, ◌∙◌, arith}
-use Rattle.std.specs.Prelude.{nat_eq}
-use Rattle.std.proofs.Math.Path.{fun_ext}
-use Rattle.ncl_netlist.specs.Netlist.{NetlistData}
-use Rattle.ncl_machine.specs.ResetValues.{driven_high}
+use Rattle.ncl_machine.proofs.Terms.{Bool, NetlistData, ap, arith, cond, driven_high, false, fun_ext, length, nat_eq, refl, true, ◌<◌, ◌||◌, ◌∙◌, ◌≡◌}
 use Rattle.ncl_machine.proofs.ProgramEnds.{program_ends}
 use Rattle.ncl_machine.proofs.ResetDrivers.{reset_by_drivers}
 use Rattle.ncl_machine.proofs.ValueLists.{net_values-set}

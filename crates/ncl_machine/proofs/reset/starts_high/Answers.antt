@@ -1,6 +1,4 @@
-use Rattle.std.proofs.Common.{sym, subst}
-use Rattle.ncl_cell_rules.specs.Sources.{IsSourceOf}
-use Rattle.ncl_cell_rules.proofs.PinNumbers.{output_within}
+use Rattle.ncl_machine.proofs.Terms.{IsSourceOf, output_within, subst, sym}
 use Rattle.ncl_machine.proofs.ResetDrivers.{bank_within}
 use Rattle.ncl_machine.proofs.reset.starts_high.Goals as goal
 

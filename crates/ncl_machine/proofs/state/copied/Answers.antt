@@ -1,6 +1,4 @@
-use Rattle.std.proofs.Common.{◌≡◌, ℕ, ◌+◌, ◌<◌, ◌++◌, ◌∷◌, [], List, Bool, take, get_or, length, sym, ap, ◌∙◌}
-use Rattle.std.proofs.lemmas.List.{take_more}
-use Rattle.std.proofs.lemmas.List.Elements.{same_from_all_zip}
+use Rattle.ncl_machine.proofs.Terms.{Bool, List, [], ap, get_or, length, same_from_all_zip, sym, take, take_more, ℕ, ◌++◌, ◌+◌, ◌<◌, ◌∙◌, ◌∷◌, ◌≡◌}
 use Rattle.ncl_machine.proofs.state.copied.Goals as goal
 
 -- one word more

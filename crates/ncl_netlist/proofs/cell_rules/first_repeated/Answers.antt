@@ -1,8 +1,4 @@
-use Rattle.std.proofs.Common.{◌≡◌, true, [], ◌∷◌, ◌++◌, length, map, take, slice_get, Some, option_map, sym, ap, ◌∙◌, subst, refl}
-use Rattle.std.specs.List.{list_any}
-use Rattle.std.proofs.lemmas.List.{take-map, map_more}
-use Rattle.std.proofs.lemmas.Option.{slice_get_read, slice_get-map}
-use Rattle.ncl_netlist.specs.Names.{same_name, AllDiffer}
+use Rattle.ncl_netlist.proofs.Terms.{AllDiffer, Some, [], ap, length, list_any, map, map_more, option_map, refl, same_name, slice_get, slice_get-map, slice_get_read, subst, sym, take, take-map, true, ◌++◌, ◌∙◌, ◌∷◌, ◌≡◌}
 use Rattle.ncl_netlist.proofs.NameLists.{any-now, insert_key-now, AllDiffer-insert_all, AllDiffer-once_each}
 use Rattle.ncl_netlist.proofs.Steps.{Seen, repeats_first, Seen-more, not_false, not_true}
 use Rattle.ncl_netlist.proofs.cell_rules.first_repeated.Goals as goal

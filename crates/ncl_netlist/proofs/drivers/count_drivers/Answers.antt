@@ -1,6 +1,4 @@
-use Rattle.std.proofs.Common.{◌≤◌, ℕ, Bool, true, false, List, [], ◌∷◌, map, slice_index, if◌then◌else◌, arith, zero, suc}
-use Rattle.ncl_netlist.specs.declared.port.Port.{Port}
-use Rattle.ncl_netlist.specs.Netlist.{drives}
+use Rattle.ncl_netlist.proofs.Terms.{Bool, List, Port, [], arith, drives, false, if◌then◌else◌, map, slice_index, suc, true, zero, ℕ, ◌∷◌, ◌≤◌}
 use Rattle.ncl_netlist.proofs.drivers.count_drivers.Goals as goal
 
 small : (ports : List Port) (net : ℕ) → slice_index (map drives ports) net ≤ 1

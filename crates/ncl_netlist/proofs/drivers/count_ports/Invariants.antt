@@ -1,5 +1,4 @@
-use Rattle.std.proofs.Common.{◌≡◌, map, take}
-use Rattle.ncl_netlist.specs.Netlist.{drives}
+use Rattle.ncl_netlist.proofs.Terms.{drives, map, take, ◌≡◌}
 use Rattle.ncl_netlist.proofs.drivers.count_ports.Given as goal
 
 abbrev pub invariant-loop-port : goal.invariant-loop-port

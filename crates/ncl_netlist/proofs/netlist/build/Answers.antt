@@ -1,8 +1,4 @@
-use Rattle.std.proofs.Common.{◌≡◌, [], length, map, sym, ap, ◌∙◌, subst, All, arith}
-use Rattle.std.proofs.lemmas.List.{length-map}
-use Rattle.ncl_netlist.specs.Netlist.{NetlistData, CellFits, IsNetlist}
-use Rattle.ncl_netlist.specs.Faults.{IsFaultOf}
-use Rattle.ncl_netlist.specs.Parts.{nets_of, netlist_of}
+use Rattle.ncl_netlist.proofs.Terms.{All, CellFits, IsFaultOf, IsNetlist, NetlistData, [], ap, arith, length, length-map, map, netlist_of, nets_of, subst, sym, ◌∙◌, ◌≡◌}
 use Rattle.ncl_netlist.proofs.NameLists.{length-insert_all}
 use Rattle.ncl_netlist.proofs.Building.{drafted, counted, passed_on, cells_fit, ports_within, is_netlist, faultless_by_counts, fault_by_counts}
 use Rattle.ncl_netlist.proofs.netlist.build.Goals as goal

@@ -1,8 +1,5 @@
-use Rattle.std.proofs.Common.{◌≡◌, [], ◌∷◌, length, arith, sym, ap, ◌∙◌}
-use Rattle.std.proofs.lemmas.Option.{same_Some}
-use Rattle.ncl_netlist.specs.Parts.{net_of, output_name}
+use Rattle.ncl_netlist.proofs.Terms.{[], ap, arith, length, net_of, output_name, pins_of-some, same_Some, sym, ◌∙◌, ◌∷◌, ◌≡◌}
 use Rattle.ncl_netlist.proofs.NameLists.{length-insert_all}
-use Rattle.ncl_gates.proofs.PinLaws.{pins_of-some}
 use Rattle.ncl_netlist.proofs.Steps.{still_whatever, cell_by_pins, inputs_by_pop, output_by_pop, inputs_few}
 use Rattle.ncl_netlist.proofs.numbering.number_cell.Goals as goal
 

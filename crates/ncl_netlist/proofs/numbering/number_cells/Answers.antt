@@ -1,9 +1,4 @@
-use Rattle.std.proofs.Common.{◌≡◌, [], map, ap, ◌∙◌, arith, rules}
-use Rattle.std.specs.List.{flat_map}
-use Rattle.std.proofs.lemmas.List.{length_push, append-nil}
-use Rattle.indexmap.specs.IndexSet.{insert_all}
-use Rattle.ncl_netlist.specs.Names.{same_name}
-use Rattle.ncl_netlist.specs.Parts.{cell_of}
+use Rattle.ncl_netlist.proofs.Terms.{[], ap, append-nil, arith, cell_of, flat_map, insert_all, length_push, map, rules, same_name, ◌∙◌, ◌≡◌}
 use Rattle.ncl_netlist.proofs.Steps.{all_gone, Numbered-more}
 use Rattle.ncl_netlist.proofs.numbering.number_cells.Goals as goal
 

@@ -1,5 +1,4 @@
-use Rattle.std.proofs.Common.{length, ◌≤◌, ◌+◌, ◌*◌}
-use Rattle.ncl_netlist.specs.Parts.{cell_of}
+use Rattle.ncl_netlist.proofs.Terms.{cell_of, length, ◌*◌, ◌+◌, ◌≤◌}
 use Rattle.ncl_netlist.proofs.Steps.{Numbered}
 use Rattle.ncl_netlist.proofs.numbering.number_cells.Given as goal
 

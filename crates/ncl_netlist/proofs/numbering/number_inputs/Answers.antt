@@ -1,8 +1,4 @@
-use Rattle.std.proofs.Common.{◌≡◌, ◌+◌, ◌≤◌, [], ◌∷◌, ◌++◌, length, map, ap, ◌∙◌, arith, rules}
-use Rattle.std.proofs.lemmas.List.{length_push}
-use Rattle.indexmap.specs.IndexSet.{insert_all}
-use Rattle.ncl_netlist.specs.Names.{same_name}
-use Rattle.ncl_netlist.specs.Parts.{net_of}
+use Rattle.ncl_netlist.proofs.Terms.{[], ap, arith, insert_all, length, length_push, map, net_of, rules, same_name, ◌++◌, ◌+◌, ◌∙◌, ◌∷◌, ◌≡◌, ◌≤◌}
 use Rattle.ncl_netlist.proofs.NameLists.{length-insert_all}
 use Rattle.ncl_netlist.proofs.Steps.{all_gone, Numbered-more, flat_map-one}
 use Rattle.ncl_netlist.proofs.numbering.number_inputs.Goals as goal

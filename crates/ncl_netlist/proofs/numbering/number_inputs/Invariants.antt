@@ -1,5 +1,4 @@
-use Rattle.std.proofs.Common.{◌≡◌, [], ◌∷◌, length, ◌≤◌, ◌+◌}
-use Rattle.ncl_netlist.specs.Parts.{net_of}
+use Rattle.ncl_netlist.proofs.Terms.{[], length, net_of, ◌+◌, ◌∷◌, ◌≡◌, ◌≤◌}
 use Rattle.ncl_netlist.proofs.Steps.{Numbered}
 use Rattle.ncl_netlist.proofs.numbering.number_inputs.Given as goal
 

@@ -1,5 +1,4 @@
-use Rattle.std.proofs.Common.{◌≡◌, ◌++◌, sym, ap, ◌∙◌}
-use Rattle.ncl_netlist.specs.Names.{name_number}
+use Rattle.ncl_netlist.proofs.Terms.{ap, name_number, sym, ◌++◌, ◌∙◌, ◌≡◌}
 use Rattle.ncl_netlist.proofs.NameLists.{name_number-insert_key}
 use Rattle.ncl_netlist.proofs.numbering.number_net.Goals as goal
 

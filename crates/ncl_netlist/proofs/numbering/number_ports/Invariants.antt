@@ -1,6 +1,4 @@
-use Rattle.std.proofs.Common.{◌≡◌, [], map, take}
-use Rattle.indexmap.specs.IndexSet.{insert_all}
-use Rattle.ncl_netlist.specs.Names.{same_name}
+use Rattle.ncl_netlist.proofs.Terms.{[], insert_all, map, same_name, take, ◌≡◌}
 use Rattle.ncl_netlist.proofs.numbering.number_ports.Given as goal
 
 abbrev pub invariant-loop-port : goal.invariant-loop-port

@@ -1,6 +1,4 @@
-use Rattle.std.proofs.Common.{◌<◌, length, ap, ◌∙◌, arith}
-use Rattle.std.specs.Bool.{beq}
-use Rattle.std.proofs.lemmas.Bool.Decides.{nat_tests}
+use Rattle.ncl_network.proofs.Terms.{ap, arith, beq, length, nat_tests, ◌<◌, ◌∙◌}
 use Rattle.ncl_network.proofs.Covers.{cover_value-by_rows}
 use Rattle.ncl_network.proofs.cover.cover_bit.Goals as goal
 

@@ -1,11 +1,5 @@
-use Rattle.std.proofs.Common.{◌≡◌, ℕ, zero, suc, ◌<◌, List, false, refl, arith}
-use Rattle.std.proofs.lemmas.List.Elements.{All-from_recursion}
-use Rattle.ncl_blif.specs.declared.model.Lit.{Lit}
+use Rattle.ncl_network.proofs.Terms.{All-from_recursion, IsNode, IsSource, List, Lit, ReachesOutput, Signal, arith, carry, carry_node, false, half_adder, is_constant, is_dash, list_all, output, refl, suc, sum, sum_node, zero, ℕ, ◌<◌, ◌≡◌}
 use Rattle.std.specs.Prelude.{length}
-use Rattle.std.specs.List.{list_all}
-use Rattle.ncl_network.specs.declared.network.Signal.{Signal}
-use Rattle.ncl_network.specs.Network.{is_constant, is_dash, IsNode, IsSource, ReachesOutput, output}
-use Rattle.ncl_network.specs.Examples.{carry, carry_node, sum, sum_node, half_adder}
 use Rattle.ncl_network.proofs.examples.half_adder_of_two_nodes.Goals as goal
 
 carry_is_node : IsNode carry_node

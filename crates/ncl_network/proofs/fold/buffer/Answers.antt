@@ -1,6 +1,4 @@
-use Rattle.std.proofs.Common.{Bool, not, cond, sym, ap, ◌∙◌}
-use Rattle.std.specs.Bool.{beq}
-use Rattle.ncl_network.specs.Network.{signal_value}
+use Rattle.ncl_network.proofs.Terms.{Bool, ap, beq, cond, not, signal_value, sym, ◌∙◌}
 use Rattle.ncl_network.proofs.Settling.{both_asked, one_asked, zero_asked}
 use Rattle.ncl_network.proofs.fold.buffer.Goals as goal
 use Rattle.ncl_network.proofs.fold.buffer.Goals.{else-one-via-then-one+else-asks_for_zero, else-one-via-else-one}

@@ -1,11 +1,4 @@
-use Rattle.std.proofs.Common.{◌≡◌, ◌<◌, length, List, Bool, false, map, sym, ap, ◌∙◌, subst, arith}
-use Rattle.std.specs.Prelude.{All}
-use Rattle.std.proofs.lemmas.Bool.{eqb-false}
-use Rattle.ncl_blif.specs.declared.model.Lit.{Lit}
-use Rattle.ncl_network.specs.declared.network.Signal.{Signal}
-use Rattle.ncl_blif.specs.Model.{weight_of_rows}
-use Rattle.ncl_network.specs.Network.{signal_value, is_constant, IsSource}
-use Rattle.ncl_network.specs.Fold.{select, kept_columns, two_level}
+use Rattle.ncl_network.proofs.Terms.{All, Bool, IsSource, List, Lit, Signal, ap, arith, eqb-false, false, is_constant, kept_columns, length, map, select, signal_value, subst, sym, two_level, weight_of_rows, ◌<◌, ◌∙◌, ◌≡◌}
 use Rattle.ncl_network.proofs.Selecting.{All-select}
 use Rattle.ncl_network.proofs.Folding.{live_of, kept_of, length-kept, kept_no_constant, kept_widths, kept_weight, folded_rows}
 use Rattle.ncl_network.proofs.fold.fold_cover.Goals as goal

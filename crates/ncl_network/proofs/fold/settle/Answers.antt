@@ -1,6 +1,4 @@
-use Rattle.std.proofs.Common.{map, sym, ap, ◌∙◌, subst, arith}
-use Rattle.std.specs.List.{list_any, list_all}
-use Rattle.ncl_network.specs.Network.{is_dash, signal_value, IsSource}
+use Rattle.ncl_network.proofs.Terms.{IsSource, ap, arith, is_dash, list_all, list_any, map, signal_value, subst, sym, ◌∙◌}
 use Rattle.ncl_network.proofs.Settling.{two_level-idle}
 use Rattle.ncl_network.proofs.fold.settle.Goals as goal
 

@@ -1,5 +1,4 @@
-use Rattle.std.proofs.Common.{◌≡◌, ℕ, ◌||◌, take}
-use Rattle.ncl_network.specs.Prune.{is_kept, is_read}
+use Rattle.ncl_network.proofs.Terms.{is_kept, is_read, take, ℕ, ◌||◌, ◌≡◌}
 use Rattle.ncl_network.proofs.mark.mark.Given as goal
 
 abbrev pub invariant-loop-signal : goal.invariant-loop-signal

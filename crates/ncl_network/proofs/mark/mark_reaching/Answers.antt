@@ -1,9 +1,4 @@
-use Rattle.std.proofs.Common.{◌≡◌, ℕ, ◌+◌, ◌-◌, ◌<◌, ◌≤◌, ◌||◌, length, get_or, List, Some, refl, sym, ap, ◌∙◌, subst, arith}
-use Rattle.std.specs.Prelude.{slice_get}
-use Rattle.std.proofs.lemmas.List.{length-replicate}
-use Rattle.std.proofs.lemmas.Option.{slice_get_read}
-use Rattle.ncl_network.specs.declared.network.Node.{Node}
-use Rattle.ncl_network.specs.Prune.{IsMarked, is_kept, is_read}
+use Rattle.ncl_network.proofs.Terms.{IsMarked, List, Node, Some, ap, arith, get_or, is_kept, is_read, length, length-replicate, refl, slice_get, slice_get_read, subst, sym, ℕ, ◌+◌, ◌-◌, ◌<◌, ◌||◌, ◌∙◌, ◌≡◌, ◌≤◌}
 use Rattle.ncl_network.proofs.Marking.{IsMarked-outputs, IsMarked-passed, IsMarked-more, turn_placed}
 use Rattle.ncl_network.proofs.mark.mark_reaching.Goals as goal
 

@@ -1,8 +1,4 @@
-use Rattle.std.proofs.Common.{◌<◌, length, rules, arith, get_or}
-use Rattle.std.proofs.lemmas.List.{length_push}
-use Rattle.std.proofs.lemmas.Iterator.Adapters.{YieldsList-from_vec}
-use Rattle.std.proofs.lemmas.Iterator.Consumers.{YieldsList-turn}
-use Rattle.ncl_network.specs.Prune.{moved_node}
+use Rattle.ncl_network.proofs.Terms.{YieldsList-from_vec, YieldsList-turn, arith, get_or, length, length_push, moved_node, rules, ◌<◌}
 use Rattle.ncl_network.proofs.Selecting.{part_more}
 use Rattle.ncl_network.proofs.pruning.kept_part.Goals as goal
 

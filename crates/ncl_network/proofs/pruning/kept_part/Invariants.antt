@@ -1,7 +1,4 @@
-use Rattle.std.proofs.Common.{◌≡◌, length, map, take}
-use Rattle.std.specs.List.{slice_index_or}
-use Rattle.ncl_network.specs.Fold.{select}
-use Rattle.ncl_network.specs.Prune.{moved_node}
+use Rattle.ncl_network.proofs.Terms.{length, map, moved_node, select, slice_index_or, take, ◌≡◌}
 use Rattle.ncl_network.proofs.pruning.kept_part.Given as goal
 
 abbrev pub invariant-loop-node : goal.invariant-loop-node

@@ -1,6 +1,4 @@
-use Rattle.std.proofs.Common.{◌≡◌, map, take}
-use Rattle.std.specs.List.{slice_index_or}
-use Rattle.ncl_network.specs.Prune.{moved_signal}
+use Rattle.ncl_network.proofs.Terms.{map, moved_signal, slice_index_or, take, ◌≡◌}
 use Rattle.ncl_network.proofs.pruning.moved_signals.Given as goal
 
 abbrev pub invariant-loop-signal : goal.invariant-loop-signal

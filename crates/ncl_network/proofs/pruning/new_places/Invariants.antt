@@ -1,6 +1,4 @@
-use Rattle.std.proofs.Common.{◌≡◌, ℕ, ◌<◌, ◌≤◌, length}
-use Rattle.std.specs.List.{slice_index_or}
-use Rattle.ncl_network.specs.Prune.{new_place}
+use Rattle.ncl_network.proofs.Terms.{length, new_place, slice_index_or, ℕ, ◌<◌, ◌≡◌, ◌≤◌}
 use Rattle.ncl_network.proofs.pruning.new_places.Given as goal
 
 abbrev pub invariant-loop-mark : goal.invariant-loop-mark

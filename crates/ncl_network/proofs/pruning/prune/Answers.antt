@@ -1,8 +1,4 @@
-use Rattle.std.proofs.Common.{◌≡◌, ℕ, ◌≤◌, ◌<◌, length, map, get_or, sym, ap, ◌∙◌, subst, arith}
-use Rattle.ncl_network.specs.declared.network.Network.{Network}
-use Rattle.ncl_network.specs.Network.{ReachesOutput, answer_of}
-use Rattle.ncl_network.specs.Fold.{select}
-use Rattle.ncl_network.specs.Prune.{IsInOrder, new_place, moved_signal, moved_node}
+use Rattle.ncl_network.proofs.Terms.{IsInOrder, Network, ReachesOutput, answer_of, ap, arith, get_or, length, map, moved_node, moved_signal, new_place, select, subst, sym, ℕ, ◌<◌, ◌∙◌, ◌≡◌, ◌≤◌}
 use Rattle.ncl_network.proofs.Marking.{nodes_placed}
 use Rattle.ncl_network.proofs.Pruned.{pruned, same_answer, IsInOrder-pruned, each_reaches}
 use Rattle.ncl_network.proofs.pruning.prune.Goals as goal

@@ -1,7 +1,4 @@
-use Rattle.std.proofs.Common.{length, ap, ◌∙◌, subst, arith}
-use Rattle.std.proofs.lemmas.Option.{MatchOption-at_none}
-use Rattle.ncl_graph.specs.Graph.{IsOnCycle}
-use Rattle.ncl_blif.specs.Dependence.{dependency_graph}
+use Rattle.ncl_network.proofs.Terms.{IsOnCycle, MatchOption-at_none, ap, arith, dependency_graph, length, subst, ◌∙◌}
 use Rattle.ncl_network.proofs.CoverOrder.{covers_few, no_cycle}
 use Rattle.ncl_network.proofs.reducing.cover_order.Goals as goal
 

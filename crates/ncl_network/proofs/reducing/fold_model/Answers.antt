@@ -1,16 +1,7 @@
-use Rattle.std.proofs.Common.{◌≡◌, ℕ, ◌≤◌, length, map, Option, Some, sym, ap, ◌∙◌, subst}
-use Rattle.std.specs.Prelude.{All, IsSome}
-use Rattle.std.specs.Ordering.{nat_cmp}
-use Rattle.std.specs.BTreeMap.{get}
-use Rattle.ncl_graph.specs.Graph.{IsOrder}
-use Rattle.ncl_blif.specs.Dependence.{dependency_graph}
-use Rattle.ncl_network.specs.declared.network.Signal.{Signal}
-use Rattle.ncl_network.specs.declared.network.Network.{Network}
-use Rattle.ncl_network.specs.Network.{answer_of, weight_of_network, weight_of_model}
-use Rattle.ncl_network.specs.Prune.{IsInOrder}
+use Rattle.ncl_network.proofs.Terms.{All, IsInOrder, IsOrder, IsSome, Network, Option, Signal, Some, answer_of, ap, dependency_graph, get, length, map, nat_cmp, subst, sym, weight_of_model, weight_of_network, ℕ, ◌∙◌, ◌≡◌, ◌≤◌}
 use Rattle.ncl_network.proofs.Whole.{outputs_known, IsInOrder-whole, same-whole, weight-whole}
 use Rattle.ncl_network.proofs.reducing.fold_model.Goals as goal
-use Rattle.ncl_network.proofs.reducing.fold_model.Goals.{After-items, After-drop-order-2}
+use Rattle.ncl_network.proofs.reducing.fold_model.Goals.{After-drop-order-2}
 
 pub look_up-requires : goal.look_up-requires
 look_up-requires c =

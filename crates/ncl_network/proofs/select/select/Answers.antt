@@ -1,5 +1,4 @@
-use Rattle.std.proofs.Common.{arith}
-use Rattle.std.proofs.lemmas.Grind.{common_steps}
+use Rattle.ncl_network.proofs.Terms.{arith, common_steps}
 use Rattle.ncl_network.proofs.Selecting.{select_more}
 use Rattle.ncl_network.proofs.select.select.Goals as goal
 use Rattle.ncl_network.proofs.select.select.Goals.{then-mask-place+in_ok-push, else-mask-place}

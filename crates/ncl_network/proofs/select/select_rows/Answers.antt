@@ -1,8 +1,4 @@
-use Rattle.std.proofs.Common.{map, List, ap, arith}
-use Rattle.std.proofs.lemmas.List.{map_push}
-use Rattle.std.proofs.lemmas.Grind.{common_steps}
-use Rattle.ncl_blif.specs.declared.model.Lit.{Lit}
-use Rattle.ncl_network.specs.Fold.{select}
+use Rattle.ncl_network.proofs.Terms.{List, Lit, ap, arith, common_steps, map, map_push, select}
 use Rattle.ncl_network.proofs.Selecting.{select_more}
 use Rattle.ncl_network.proofs.select.select_rows.Goals as goal
 use Rattle.ncl_network.proofs.select.select_rows.Goals.{then-live-place+in_ok-lits+in_ok-push, else-live-place}

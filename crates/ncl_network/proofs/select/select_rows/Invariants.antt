@@ -1,5 +1,4 @@
-use Rattle.std.proofs.Common.{◌≡◌, take, map}
-use Rattle.ncl_network.specs.Fold.{select}
+use Rattle.ncl_network.proofs.Terms.{map, select, take, ◌≡◌}
 use Rattle.ncl_network.proofs.select.select_rows.Given as goal
 
 abbrev pub invariant-loop-place : goal.invariant-loop-place

@@ -1,8 +1,4 @@
-use Rattle.std.proofs.Common.{◌≡◌, ℕ, nat_lt, Some, None}
-use Rattle.std.specs.Bool.{if◌then◌else◌}
-use Rattle.std.specs.Ordering.{nat_cmp}
-use Rattle.std.specs.BTreeMap.{get}
-use Rattle.ncl_network.specs.Walk.{input_signal}
+use Rattle.ncl_network.proofs.Terms.{None, Some, get, if◌then◌else◌, input_signal, nat_cmp, nat_lt, ℕ, ◌≡◌}
 use Rattle.ncl_network.proofs.walk.begin.Given as goal
 
 abbrev pub invariant-loop-name : goal.invariant-loop-name

@@ -1,9 +1,4 @@
-use Rattle.std.proofs.Common.{ℕ, List, [], cond, nat_lt, length, get_or, take, Some, None, sym, ap, ◌∙◌, subst}
-use Rattle.std.specs.Ordering.{nat_cmp}
-use Rattle.std.specs.BTreeMap.{get}
-use Rattle.std.proofs.lemmas.List.{take_more}
-use Rattle.ncl_blif.specs.declared.model.Cover.{Cover}
-use Rattle.ncl_network.specs.Walk.{input_signal, IsWalked}
+use Rattle.ncl_network.proofs.Terms.{Cover, IsWalked, List, None, Some, [], ap, cond, get, get_or, input_signal, length, nat_cmp, nat_lt, subst, sym, take, take_more, ℕ, ◌∙◌}
 use Rattle.ncl_network.proofs.CoverOrder.{IsWalked-none, turn_ready, turn_few, turn_done}
 use Rattle.ncl_network.proofs.walk.walk_covers.Goals as goal
 

@@ -1,11 +1,4 @@
-use Rattle.std.proofs.Common.{◌≡◌, [], ◌∷◌, List, length, get_or, set, drop, refl, sym, ap, subst, ◌∙◌, arith}
-use Rattle.std.proofs.lemmas.Bool.{eqb-true}
-use Rattle.ncl_network.specs.declared.network.Signal.{Signal}
-use Rattle.ncl_network.specs.declared.network.Network.{Network}
-use Rattle.ncl_decomp.specs.declared.pair.Joint.TheVariants.{Join}
-use Rattle.ncl_decomp.specs.Pairs.{NodeTree, AddsTree}
-use Rattle.ncl_decomp.specs.Split.{cost_of_network}
-use Rattle.ncl_rails.specs.Complete.{IsComplete, AnswersAs, unread_signals}
+use Rattle.ncl_rails.proofs.Terms.{AddsTree, AnswersAs, IsComplete, Join, List, Network, NodeTree, Signal, [], ap, arith, cost_of_network, drop, eqb-true, get_or, length, refl, set, subst, sym, unread_signals, ◌∙◌, ◌∷◌, ◌≡◌}
 use Rattle.ncl_rails.proofs.Inputs.{unread_few}
 use Rattle.ncl_rails.proofs.Joining.{complete_as_it_is, tree_room, two_trees, joined, joined_is_complete, joined_answers, joined_cost}
 use Rattle.ncl_rails.proofs.complete.join_unread.Goals as goal

@@ -1,11 +1,4 @@
-use Rattle.std.proofs.Common.{◌≡◌, ◌++◌, [], ◌∷◌, length, map, true, sym, ap, subst, ◌∙◌, arith}
-use Rattle.std.specs.List.{list_any}
-use Rattle.std.proofs.lemmas.Grind.{common_steps}
-use Rattle.ncl_network.specs.declared.network.Signal.{Signal}
-use Rattle.ncl_network.specs.declared.network.Network.{Network}
-use Rattle.ncl_network.specs.Network.{is_constant}
-use Rattle.ncl_decomp.specs.Split.{cost_of_network}
-use Rattle.ncl_rails.specs.Complete.{IsVarying, AnswersAs, true_node, replaced}
+use Rattle.ncl_rails.proofs.Terms.{AnswersAs, IsVarying, Network, Signal, [], ap, arith, common_steps, cost_of_network, is_constant, length, list_any, map, replaced, subst, sym, true, true_node, ◌++◌, ◌∙◌, ◌∷◌, ◌≡◌}
 use Rattle.ncl_rails.proofs.Replacing.{without_constants, varies_as_it_is, constants_gone, constant_answers, constant_cost, AnswersAs-same, few_nodes}
 use Rattle.ncl_rails.proofs.constants.without_constants.Goals as goal
 use Rattle.ncl_rails.proofs.constants.without_constants.Goals.{After-drop-outputs-inside-2}

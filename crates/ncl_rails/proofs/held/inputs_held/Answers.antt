@@ -1,6 +1,4 @@
-use borrow.Author.Count.{below_more}
-use Rattle.ncl_network.specs.declared.network.SignalSource.TheVariants.{Input}
-use Rattle.ncl_rails.specs.Waiting.{IsHeld, waits_of}
+use Rattle.ncl_rails.proofs.Terms.{Input, IsHeld, below_more, waits_of}
 use Rattle.ncl_rails.proofs.held.inputs_held.Goals as goal
 
 pub loop-i-preserved : goal.loop-i-preserved

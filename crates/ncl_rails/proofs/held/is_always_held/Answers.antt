@@ -1,6 +1,4 @@
-use Rattle.std.proofs.Common.{map, sym, ap, ◌∙◌, arith}
-use Rattle.ncl_network.specs.declared.network.Node.{Node}
-use Rattle.ncl_cells.specs.Cones.{signal_in}
+use Rattle.ncl_rails.proofs.Terms.{Node, ap, arith, map, signal_in, sym, ◌∙◌}
 use Rattle.ncl_rails.proofs.Holding.{IsAwaited-by}
 use Rattle.ncl_rails.proofs.held.is_always_held.Goals as goal
 

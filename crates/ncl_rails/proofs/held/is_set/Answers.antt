@@ -1,5 +1,4 @@
-use Rattle.std.proofs.Common.{ℕ, nat_eq, ap}
-use Rattle.std.proofs.lemmas.Nat.Bits.{shr_and_one}
+use Rattle.ncl_rails.proofs.Terms.{ap, nat_eq, shr_and_one, ℕ}
 use Rattle.ncl_rails.proofs.held.is_set.Goals as goal
 
 pub returns : goal.returns

@@ -1,6 +1,4 @@
-use borrow.Author.Count.{below_more}
-use Rattle.ncl_network.specs.declared.network.SignalSource.TheVariants.{Node as FromNode}
-use Rattle.ncl_rails.specs.Waiting.{IsHeld, waits_of}
+use Rattle.ncl_rails.proofs.Terms.{FromNode, IsHeld, below_more, waits_of}
 use Rattle.ncl_rails.proofs.held.nodes_held.Goals as goal
 
 pub loop-k-preserved : goal.loop-k-preserved

@@ -1,6 +1,4 @@
-use Rattle.std.proofs.Common.{ℕ, ◌<◌}
-use Rattle.ncl_network.specs.declared.network.SignalSource.TheVariants.{Node as FromNode}
-use Rattle.ncl_rails.specs.Waiting.{IsHeld, waits_of}
+use Rattle.ncl_rails.proofs.Terms.{FromNode, IsHeld, waits_of, ℕ, ◌<◌}
 use Rattle.ncl_rails.proofs.held.nodes_held.Given as goal
 
 abbrev pub invariant-loop-k : goal.invariant-loop-k

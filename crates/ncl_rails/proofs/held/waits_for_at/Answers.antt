@@ -1,6 +1,4 @@
-use Rattle.std.proofs.Common.{rules, false, sym, ◌∙◌}
-use Rattle.ncl_network.specs.declared.network.SignalSource.TheVariants.{Input}
-use Rattle.ncl_template.specs.Waits.{waits_at}
+use Rattle.ncl_rails.proofs.Terms.{Input, false, rules, sym, waits_at, ◌∙◌}
 use Rattle.ncl_rails.proofs.Holding.{WaitsFor-at}
 use Rattle.ncl_rails.proofs.held.waits_for_at.Goals as goal
 

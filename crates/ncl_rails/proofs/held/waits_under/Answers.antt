@@ -1,6 +1,4 @@
-use Rattle.std.proofs.Common.{sym, subst, ◌∙◌}
-use Rattle.ncl_template.specs.Waits.{waits_at}
-use Rattle.ncl_rails.specs.Waiting.{WaitsFor}
+use Rattle.ncl_rails.proofs.Terms.{WaitsFor, subst, sym, waits_at, ◌∙◌}
 use Rattle.ncl_rails.proofs.held.waits_under.Goals as goal
 
 pub returns-in-Some : goal.returns-in-Some

@@ -1,7 +1,4 @@
-use Rattle.std.proofs.Common.{false, sym, ◌∙◌, ◌++◌, [], ◌∷◌, arith}
-use Rattle.std.proofs.lemmas.List.{map_more}
-use Rattle.ncl_network.specs.declared.network.SignalSource.TheVariants.{Input}
-use Rattle.ncl_cells.specs.Cones.{signal_in}
+use Rattle.ncl_rails.proofs.Terms.{Input, [], arith, false, map_more, signal_in, sym, ◌++◌, ◌∙◌, ◌∷◌}
 use Rattle.ncl_rails.proofs.held.word_there.Goals as goal
 
 pub loop-signal-preserved : goal.loop-signal-preserved

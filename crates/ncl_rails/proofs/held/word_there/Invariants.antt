@@ -1,7 +1,4 @@
-use Rattle.std.proofs.Common.{◌≡◌, Bool, length, map, take}
-use Rattle.ncl_network.specs.declared.network.SignalSource.{SignalSource}
-use Rattle.ncl_cells.specs.Cones.{signal_in}
-use Rattle.ncl_rails.specs.Waiting.{HasBits}
+use Rattle.ncl_rails.proofs.Terms.{Bool, HasBits, SignalSource, length, map, signal_in, take, ◌≡◌}
 use Rattle.ncl_rails.proofs.held.word_there.Given as goal
 
 abbrev pub invariant-loop-signal : goal.invariant-loop-signal

@@ -1,16 +1,5 @@
-use Rattle.std.proofs.Common.{◌≡◌, ◌<◌, ◌+◌, [], length, map, get_or, take, refl, sym, ap, subst, ◌∙◌, arith}
-use Rattle.std.specs.Prelude.{All}
-use Rattle.ncl_network.specs.declared.network.Signal.{Signal}
-use Rattle.ncl_network.specs.Network.{IsSource}
-use Rattle.ncl_decomp.specs.Split.{cost_of_inputs}
-use Rattle.ncl_template.specs.declared.waits.Waits.{Waits}
-use Rattle.ncl_template.specs.Among.{AddsAmong}
-use Rattle.ncl_template.specs.Template.{node_function}
-use Rattle.ncl_rails.specs.Layout.{AreLaidOut, signal_pair}
+use Rattle.ncl_rails.proofs.Terms.{AddsAmong, All, AreLaidOut, IsSource, Signal, Waits, [], all_inputs, ap, arith, cost_of_inputs, get_or, length, length-take-le, map, node_function, refl, signal_pair, subst, sym, take, waits_at, waits_of, ◌+◌, ◌<◌, ◌∙◌, ◌≡◌}
 use Rattle.ncl_rails.proofs.Laying.{AreLaidOut-none, turn_reads, turn_laid}
-use Rattle.std.proofs.lemmas.List.{length-take-le}
-use Rattle.ncl_template.specs.Waits.{waits_at, all_inputs}
-use Rattle.ncl_rails.specs.Waiting.{waits_of}
 use Rattle.ncl_rails.proofs.layout.add_nodes.Goals as goal
 use Rattle.ncl_rails.proofs.layout.add_nodes.Goals.{After-items}
 

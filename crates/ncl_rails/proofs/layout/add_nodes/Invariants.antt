@@ -1,6 +1,4 @@
-use Rattle.std.proofs.Common.{◌≡◌, take}
-use Rattle.ncl_rails.specs.Waiting.{waits_of}
-use Rattle.ncl_rails.specs.Layout.{AreLaidOut}
+use Rattle.ncl_rails.proofs.Terms.{AreLaidOut, take, waits_of, ◌≡◌}
 use Rattle.ncl_rails.proofs.layout.add_nodes.Given as goal
 
 abbrev pub invariant-loop-node : goal.invariant-loop-node

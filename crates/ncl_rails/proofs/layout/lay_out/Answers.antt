@@ -1,9 +1,4 @@
-use Rattle.std.proofs.Common.{◌≡◌, length, map, sym, ap, subst, ◌∙◌}
-use Rattle.std.specs.Prelude.{All}
-use Rattle.ncl_network.specs.declared.network.Signal.{Signal}
-use Rattle.ncl_network.specs.Network.{IsSource}
-use Rattle.ncl_rails.specs.Waiting.{waits_of}
-use Rattle.ncl_rails.specs.Layout.{AreLaidOut, input_pairs, signal_pair}
+use Rattle.ncl_rails.proofs.Terms.{All, AreLaidOut, IsSource, Signal, ap, input_pairs, length, map, signal_pair, subst, sym, waits_of, ◌∙◌, ◌≡◌}
 use Rattle.ncl_rails.proofs.Laying.{length-input_pairs}
 use Rattle.ncl_rails.proofs.layout.lay_out.Goals as goal
 

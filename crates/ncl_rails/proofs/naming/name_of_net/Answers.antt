@@ -1,8 +1,4 @@
-use Rattle.std.proofs.Common.{◌≡◌, ℕ, ◌+◌, ◌-◌, ◌*◌, ◌/◌, ◌≤◌, List, length, sym, ap, subst, ◌∙◌, arith}
-use Rattle.std.specs.Prelude.{IfOk}
-use Rattle.ncl_tree.specs.PartNames.{net_name_of}
-use Rattle.ncl_tree.specs.NamePairs.{pair_names}
-use Rattle.ncl_rails.specs.Named.{name_of_net}
+use Rattle.ncl_rails.proofs.Terms.{IfOk, List, ap, arith, length, name_of_net, net_name_of, pair_names, subst, sym, ℕ, ◌*◌, ◌+◌, ◌-◌, ◌/◌, ◌∙◌, ◌≡◌, ◌≤◌}
 use Rattle.ncl_rails.proofs.NetNames.{length-pair_names, made_name, net_zero, net_one}
 use Rattle.ncl_rails.proofs.naming.name_of_net.Goals as goal
 

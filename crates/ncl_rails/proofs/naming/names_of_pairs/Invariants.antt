@@ -1,6 +1,4 @@
-use Rattle.std.proofs.Common.{◌≡◌, map, take}
-use Rattle.ncl_tree.specs.NamePairs.{pair_names}
-use Rattle.ncl_rails.specs.Named.{name_of_pair}
+use Rattle.ncl_rails.proofs.Terms.{map, name_of_pair, pair_names, take, ◌≡◌}
 use Rattle.ncl_rails.proofs.naming.names_of_pairs.Given as goal
 
 abbrev pub invariant-loop-pair : goal.invariant-loop-pair

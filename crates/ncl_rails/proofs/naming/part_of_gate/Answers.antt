@@ -1,9 +1,4 @@
-use Rattle.std.proofs.Common.{◌≡◌, ℕ, ◌++◌, [], ◌∷◌, List, map, sym, ap, ◌∙◌}
-use Rattle.std.proofs.lemmas.List.{take_all, map-append}
-use Rattle.ncl_gates.specs.declared.cell_kind.CellKind.TheVariants.{Gate}
-use Rattle.ncl_netlist.specs.declared.ids.NetId.{NetId}
-use Rattle.ncl_tree.specs.NamePairs.{pair_names}
-use Rattle.ncl_rails.specs.Named.{name_of_net}
+use Rattle.ncl_rails.proofs.Terms.{Gate, List, NetId, [], ap, map, map-append, name_of_net, pair_names, sym, take_all, ℕ, ◌++◌, ◌∙◌, ◌∷◌, ◌≡◌}
 use Rattle.ncl_rails.proofs.naming.part_of_gate.Goals as goal
 
 pub returns : goal.returns

@@ -1,7 +1,4 @@
-use Rattle.std.proofs.Common.{◌≡◌, map, take}
-use Rattle.ncl_netlist.specs.declared.ids.NetId.{NetId}
-use Rattle.ncl_tree.specs.NamePairs.{pair_names}
-use Rattle.ncl_rails.specs.Named.{name_of_net}
+use Rattle.ncl_rails.proofs.Terms.{NetId, map, name_of_net, pair_names, take, ◌≡◌}
 use Rattle.ncl_rails.proofs.naming.part_of_gate.Given as goal
 
 abbrev pub invariant-loop-net : goal.invariant-loop-net

@@ -1,6 +1,4 @@
-use Rattle.std.proofs.Common.{◌≡◌, map, take}
-use Rattle.ncl_tree.specs.NamePairs.{pair_names}
-use Rattle.ncl_rails.specs.Named.{part_of_gate}
+use Rattle.ncl_rails.proofs.Terms.{map, pair_names, part_of_gate, take, ◌≡◌}
 use Rattle.ncl_rails.proofs.naming.parts_of_gates.Given as goal
 
 abbrev pub invariant-loop-gate : goal.invariant-loop-gate

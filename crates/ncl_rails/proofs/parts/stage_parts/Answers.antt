@@ -1,8 +1,4 @@
-use Rattle.std.proofs.Common.{length, map, sym, ap, subst, ◌∙◌}
-use Rattle.std.specs.Prelude.{All}
-use Rattle.ncl_shape.specs.Stage.{rail_nets}
-use Rattle.ncl_tree.specs.NamePairs.{pair_names}
-use Rattle.ncl_rails.specs.Named.{IsNamed, CanBeNamed, name_of_pair, part_of_gate}
+use Rattle.ncl_rails.proofs.Terms.{All, CanBeNamed, IsNamed, ap, length, map, name_of_pair, pair_names, part_of_gate, rail_nets, subst, sym, ◌∙◌}
 use Rattle.ncl_rails.proofs.Whole.{gates_named, outs_named, AreStageParts-made}
 use Rattle.ncl_rails.proofs.parts.stage_parts.Goals as goal
 

@@ -1,6 +1,4 @@
-use Rattle.std.proofs.Common.{sym, subst}
-use Rattle.ncl_rails.specs.Waiting.{IsCovered}
-use Rattle.ncl_rails.specs.Waiting.{waits_of}
+use Rattle.ncl_rails.proofs.Terms.{IsCovered, subst, sym, waits_of}
 use Rattle.ncl_rails.proofs.AllRead.{covered_all}
 use Rattle.ncl_rails.proofs.relaxing.told_or_all.Goals as goal
 

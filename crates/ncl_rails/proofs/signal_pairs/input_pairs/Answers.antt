@@ -1,6 +1,4 @@
-use Rattle.std.proofs.Common.{◌++◌, [], ◌∷◌, sym, ap, ◌∙◌, arith}
-use Rattle.std.proofs.lemmas.List.FromFn.{map-range_with_len_more}
-use Rattle.ncl_rails.specs.Layout.{input_pair}
+use Rattle.ncl_rails.proofs.Terms.{[], ap, arith, input_pair, map-range_with_len_more, sym, ◌++◌, ◌∙◌, ◌∷◌}
 use Rattle.ncl_rails.proofs.signal_pairs.input_pairs.Goals as goal
 
 pub loop-i-preserved : goal.loop-i-preserved

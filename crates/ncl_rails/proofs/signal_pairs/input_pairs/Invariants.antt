@@ -1,5 +1,4 @@
-use Rattle.std.proofs.Common.{◌≡◌}
-use Rattle.ncl_rails.specs.Layout.{input_pairs}
+use Rattle.ncl_rails.proofs.Terms.{input_pairs, ◌≡◌}
 use Rattle.ncl_rails.proofs.signal_pairs.input_pairs.Given as goal
 
 abbrev pub invariant-loop-i : goal.invariant-loop-i

@@ -1,5 +1,4 @@
-use Rattle.std.proofs.Common.{◌≡◌, map, take}
-use Rattle.ncl_rails.specs.Layout.{signal_pair}
+use Rattle.ncl_rails.proofs.Terms.{map, signal_pair, take, ◌≡◌}
 use Rattle.ncl_rails.proofs.signal_pairs.signal_pairs.Given as goal
 
 abbrev pub invariant-loop-signal : goal.invariant-loop-signal

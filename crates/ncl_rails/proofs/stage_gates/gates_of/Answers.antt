@@ -1,6 +1,4 @@
-use Rattle.std.proofs.Common.{subst, arith}
-use Rattle.ncl_rails.specs.Waiting.{waits_of}
-use Rattle.ncl_rails.specs.Layout.{IsLaidOut}
+use Rattle.ncl_rails.proofs.Terms.{IsLaidOut, arith, subst, waits_of}
 use Rattle.ncl_rails.proofs.Replacing.{twice_nodes}
 use Rattle.ncl_rails.proofs.stage_gates.gates_of.Goals as goal
 

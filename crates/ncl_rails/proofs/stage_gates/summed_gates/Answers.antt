@@ -1,5 +1,4 @@
-use Rattle.std.proofs.Common.{subst, IfSome}
-use Rattle.ncl_cells.specs.Remade.{IsSameAs}
+use Rattle.ncl_rails.proofs.Terms.{IfSome, IsSameAs, subst}
 use Rattle.ncl_rails.proofs.GatesLaws.{IsSameAs-then}
 use Rattle.ncl_rails.proofs.stage_gates.summed_gates.Goals as goal
 

@@ -1,6 +1,4 @@
-use Rattle.std.proofs.Common.{◌≡◌, ℕ, ◌||◌, false, take}
-use Rattle.std.specs.List.{slice_index_or}
-use Rattle.ncl_rails.specs.Complete.{is_among}
+use Rattle.ncl_rails.proofs.Terms.{false, is_among, slice_index_or, take, ℕ, ◌||◌, ◌≡◌}
 use Rattle.ncl_rails.proofs.unread.mark.Given as goal
 
 abbrev pub invariant-loop-signal : goal.invariant-loop-signal

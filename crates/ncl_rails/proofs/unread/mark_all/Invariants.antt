@@ -1,7 +1,4 @@
-use Rattle.std.proofs.Common.{◌≡◌, ℕ, ◌||◌, false, take}
-use Rattle.std.specs.List.{slice_index_or, list_any}
-use Rattle.ncl_network.specs.declared.network.Node.{Node}
-use Rattle.ncl_rails.specs.Complete.{is_among}
+use Rattle.ncl_rails.proofs.Terms.{Node, false, is_among, list_any, slice_index_or, take, ℕ, ◌||◌, ◌≡◌}
 use Rattle.ncl_rails.proofs.unread.mark_all.Given as goal
 
 abbrev pub invariant-loop-node : goal.invariant-loop-node

@@ -1,10 +1,4 @@
-use Rattle.std.proofs.Common.{◌≡◌, ◌||◌, false, length, sym, ap, subst, ◌∙◌}
-use Rattle.std.specs.Prelude.{All}
-use Rattle.std.specs.List.{list_any, slice_index_or}
-use Rattle.std.proofs.lemmas.List.{length-replicate}
-use Rattle.ncl_network.specs.declared.network.Signal.{Signal}
-use Rattle.ncl_network.specs.declared.network.Node.{Node}
-use Rattle.ncl_rails.specs.Complete.{IsInputBelow, is_among}
+use Rattle.ncl_rails.proofs.Terms.{All, IsInputBelow, Node, Signal, ap, false, is_among, length, length-replicate, list_any, slice_index_or, subst, sym, ◌||◌, ◌∙◌, ◌≡◌}
 use Rattle.ncl_rails.proofs.Inputs.{outputs_below, nodes_below, marked}
 use Rattle.ncl_rails.proofs.unread.mark_read.Goals as goal
 

@@ -1,5 +1,4 @@
-use Rattle.std.proofs.Common.{◌≡◌, ◌<◌, ◌++◌, [], ◌∷◌, length, sym, ap, ◌∙◌, arith}
-use Rattle.ncl_rails.specs.Complete.{input_signal, is_input_read}
+use Rattle.ncl_rails.proofs.Terms.{[], ap, arith, input_signal, is_input_read, length, sym, ◌++◌, ◌<◌, ◌∙◌, ◌∷◌, ◌≡◌}
 use Rattle.ncl_rails.proofs.Inputs.{unread_more, read_more, mark_at}
 use Rattle.ncl_rails.proofs.unread.unread_inputs.Goals as goal
 use Rattle.ncl_rails.proofs.unread.unread_inputs.Goals.{Joined-not-index, then-not-index+in_ok-push, else-not-index}

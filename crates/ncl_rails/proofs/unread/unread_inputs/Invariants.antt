@@ -1,7 +1,4 @@
-use Rattle.std.proofs.Common.{◌≡◌, not, map}
-use Rattle.std.specs.Prelude.{filter}
-use Rattle.std.specs.List.{range_with_len}
-use Rattle.ncl_rails.specs.Complete.{input_signal, is_input_read}
+use Rattle.ncl_rails.proofs.Terms.{filter, input_signal, is_input_read, map, not, range_with_len, ◌≡◌}
 use Rattle.ncl_rails.proofs.unread.unread_inputs.Given as goal
 
 abbrev pub invariant-loop-i : goal.invariant-loop-i

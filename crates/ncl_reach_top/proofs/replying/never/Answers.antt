@@ -1,7 +1,4 @@
-use Rattle.std.proofs.Common.{IsFalse, IsTrue, rules, sym, subst}
-use Rattle.ncl_hazard.specs.Trying.{HasNoDataBank}
-use Rattle.ncl_check.specs.declared.reply.Outcome.TheVariants.{Unjudged}
-use Rattle.ncl_reach_top.specs.Reply.{IsPipelineReply, never, sound, held}
+use Rattle.ncl_reach_top.proofs.Terms.{HasNoDataBank, IsFalse, IsPipelineReply, IsTrue, Unjudged, held, never, rules, sound, subst, sym}
 use Rattle.ncl_reach_top.proofs.replying.never.Goals as goal
 
 pub returns-then-data_banks-eq0 : goal.returns-then-data_banks-eq0

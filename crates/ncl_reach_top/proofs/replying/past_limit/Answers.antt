@@ -1,6 +1,4 @@
-use Rattle.std.proofs.Common.{sym, subst}
-use Rattle.ncl_check.specs.declared.reply.Outcome.TheVariants.{Unjudged}
-use Rattle.ncl_reach_top.specs.Reply.{IsPipelineReply, past}
+use Rattle.ncl_reach_top.proofs.Terms.{IsPipelineReply, Unjudged, past, subst, sym}
 use Rattle.ncl_reach_top.proofs.replying.past_limit.Goals as goal
 
 pub returns : goal.returns

@@ -1,6 +1,4 @@
-use Rattle.std.proofs.Common.{◌++◌, Result, Ok, Err, OnOk, None, append_assoc, sym, ap, ◌∙◌}
-use Rattle.ncl_lines.specs.WhyText.{step_lines}
-use Rattle.ncl_reach_top.specs.Reply.{end_line}
+use Rattle.ncl_reach_top.proofs.Terms.{Err, None, Ok, OnOk, Result, ap, append_assoc, end_line, step_lines, sym, ◌++◌, ◌∙◌}
 use Rattle.ncl_reach_top.proofs.replying.push_run.Goals as goal
 
 on_ok : {A E P Q : Type 0} (r : Result A E) → (P → Q) → OnOk r P → OnOk r Q

@@ -1,7 +1,4 @@
-use Rattle.std.proofs.lemmas.Result.{IfOk-weaker}
-use Rattle.ncl_check.specs.Text.{IsRefusedText, IsShapeless, shapeless}
-use Rattle.ncl_check.proofs.Refusing.{TellsLine-weaker}
-use Rattle.ncl_check.proofs.Replying.{pipeline_text}
+use Rattle.ncl_reach_top.proofs.Terms.{IfOk-weaker, IsRefusedText, IsShapeless, TellsLine-weaker, pipeline_text, shapeless}
 use Rattle.ncl_reach_top.proofs.Replies.{refused_reply, pipeline_reply, reach_works, reach_wrong}
 use Rattle.ncl_reach_top.proofs.replying.reply.Goals as goal
 

@@ -1,9 +1,4 @@
-use Rattle.std.proofs.Common.{◌++◌, Some, ◌∙◌, ap, sym, subst}
-use Rattle.std.proofs.lemmas.List.{append-nil}
-use Rattle.ncl_base.proofs.Places.{no_entry}
-use Rattle.ncl_check.specs.declared.reply.Outcome.TheVariants.{Refused}
-use Rattle.ncl_reaching.specs.Answers.{GoesWrongBy}
-use Rattle.ncl_reach_top.specs.Reply.{IsPipelineReply, shown, line_on, run_lines, with_input}
+use Rattle.ncl_reach_top.proofs.Terms.{GoesWrongBy, IsPipelineReply, Refused, Some, ap, append-nil, line_on, no_entry, run_lines, shown, subst, sym, with_input, ◌++◌, ◌∙◌}
 use Rattle.ncl_reach_top.proofs.Named.{names_run, names_shown}
 use Rattle.ncl_reach_top.proofs.replying.shown.Goals.{in-Some+in_ok-push_run, in_default}
 use Rattle.ncl_reach_top.proofs.replying.shown.Goals as goal

@@ -1,7 +1,4 @@
-use Rattle.std.proofs.Common.{Err, map, ap, sym, ◌∙◌, subst}
-use Rattle.ncl_command.specs.Command.{command_of}
-use Rattle.ncl_reply.specs.Replies.{Refuses}
-use Rattle.ncl_reach_top.specs.Answered.{Asks, IsReachedFile, not_understood, replied, read_failed, no_memory}
+use Rattle.ncl_reach_top.proofs.Terms.{Asks, Err, IsReachedFile, Refuses, ap, command_of, map, no_memory, not_understood, read_failed, replied, subst, sym, ◌∙◌}
 use Rattle.ncl_reach_top.proofs.Ends.{says_reached}
 use Rattle.ncl_reach_top.proofs.top.answer.Goals as goal
 

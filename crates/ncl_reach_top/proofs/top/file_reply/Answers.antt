@@ -1,8 +1,4 @@
-use Rattle.std.proofs.Common.{refl}
-use Rattle.ncl_check.specs.Text.{too_long}
-use Rattle.ncl_reply.proofs.Refusals.{Replies-long}
-use Rattle.ncl_reach_top.specs.Reply.{refused}
-use Rattle.ncl_reach_top.specs.Answered.{IsReachedFile}
+use Rattle.ncl_reach_top.proofs.Terms.{IsReachedFile, Replies-long, refl, refused, too_long}
 use Rattle.ncl_reach_top.proofs.top.file_reply.Goals as goal
 
 pub returns-in_err-bytes-clause-replies : goal.returns-in_err-bytes-clause-replies

@@ -1,21 +1,4 @@
-use Rattle.std.proofs.Common.{◌≡◌, ℕ, List, Err, length, map, sym, ap, ◌∙◌, subst}
-use Rattle.std.specs.Prelude.{All}
-use Rattle.std.specs.List.{range_with_len}
-use Rattle.std.specs.Option.{option_map}
-use Rattle.std.proofs.lemmas.Result.{IfOk-weaker}
-use Rattle.ncl_shape.specs.Stage.{StageData}
-use Rattle.ncl_space.specs.Space.{SpaceData}
-use Rattle.ncl_space.proofs.MakingLaws.{handed_on}
-use Rattle.ncl_diagram.specs.Diagram.{diagram_space}
-use Rattle.ncl_faults.specs.declared.variant.Variant.{Variant}
-use Rattle.ncl_faults.specs.declared.variant.Variant.TheVariants.{Base}
-use Rattle.ncl_stage.specs.LeastWords.{first_of}
-use Rattle.ncl_stage.proofs.ChangedLaws.{values-kept}
-use Rattle.ncl_verdict.specs.InSpace.{IsAfterBase}
-use Rattle.ncl_verdict.proofs.FileOrder.{after_base-within}
-use Rattle.ncl_hazard.specs.Search.{ascending}
-use Rattle.ncl_reaching.specs.Asking.{IsPast, inputs_of_chain, shown_of}
-use Rattle.ncl_reaching.specs.Reaching.{first_at, first_shown}
+use Rattle.ncl_reaching.proofs.Terms.{All, Base, Err, IfOk-weaker, IsAfterBase, IsPast, List, SpaceData, StageData, Variant, after_base-within, ap, ascending, diagram_space, first_at, first_of, first_shown, handed_on, inputs_of_chain, length, map, option_map, range_with_len, shown_of, subst, sym, values-kept, ℕ, ◌∙◌, ◌≡◌}
 use Rattle.ncl_reaching.proofs.QuestionLaws.{first-later, first-outputs, nets-past, past-restored, question-past}
 use Rattle.ncl_reaching.proofs.asking.ask.Goals as goal
 

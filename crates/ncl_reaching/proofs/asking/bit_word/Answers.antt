@@ -1,10 +1,4 @@
-use Rattle.std.proofs.Common.{Err, length, sym, ap, ◌∙◌}
-use Rattle.ncl_shape.specs.Stage.{StageData}
-use Rattle.ncl_space.proofs.MakingLaws.{handed_on}
-use Rattle.ncl_diagram.specs.Diagram.{diagram_space}
-use Rattle.ncl_faults.specs.declared.variant.Variant.TheVariants.{Base, Cell}
-use Rattle.ncl_faults.specs.Faults.{Orphan}
-use Rattle.ncl_stage.proofs.ChangedLaws.{values-kept}
+use Rattle.ncl_reaching.proofs.Terms.{Base, Cell, Err, Orphan, StageData, ap, diagram_space, handed_on, length, sym, values-kept, ◌∙◌}
 use Rattle.ncl_reaching.proofs.QuestionLaws.{past-restored, least-wide}
 use Rattle.ncl_reaching.proofs.asking.bit_word.Goals as goal
 

@@ -1,13 +1,4 @@
-use Rattle.std.proofs.Common.{◌≡◌, ◌≤◌, Some, List, Option, length, get_or, sym, ap, ◌∙◌, arith}
-use Rattle.std.specs.Option.{option_map}
-use Rattle.ncl_shape.specs.Stage.{StageData}
-use Rattle.ncl_diagram.specs.Diagram.{diagram_space}
-use Rattle.ncl_faults.specs.declared.variant.Variant.{Variant}
-use Rattle.ncl_faults.specs.declared.variant.Variant.TheVariants.{Base}
-use Rattle.ncl_stage.proofs.ChangedLaws.{values-kept}
-use Rattle.ncl_verdict.proofs.InSpaceLaws.{first-none_at, first-some_at}
-use Rattle.ncl_reaching.specs.Asking.{inputs_of_chain, shown_of}
-use Rattle.ncl_reaching.specs.Reaching.{Shown, first_at}
+use Rattle.ncl_reaching.proofs.Terms.{Base, List, Option, Shown, Some, StageData, Variant, ap, arith, diagram_space, first-none_at, first-some_at, first_at, get_or, inputs_of_chain, length, option_map, shown_of, sym, values-kept, ◌∙◌, ◌≡◌, ◌≤◌}
 use Rattle.ncl_reaching.proofs.asking.first_found.Goals as goal
 
 pub found_at-requires-clause-base : goal.found_at-requires-clause-base

@@ -1,9 +1,4 @@
-use Rattle.std.proofs.Common.{◌≡◌, ℕ, ◌<◌, None, get_or}
-use Rattle.ncl_space.specs.Space.{Restores}
-use Rattle.ncl_diagram.specs.Diagram.{diagram_space}
-use Rattle.ncl_faults.specs.declared.variant.Variant.{Variant}
-use Rattle.ncl_reaching.specs.Asking.{inputs_of_chain}
-use Rattle.ncl_reaching.specs.Reaching.{first_at}
+use Rattle.ncl_reaching.proofs.Terms.{None, Restores, Variant, diagram_space, first_at, get_or, inputs_of_chain, ℕ, ◌<◌, ◌≡◌}
 use Rattle.ncl_reaching.proofs.asking.first_found.Given as goal
 
 -- the space is as it was, and no input shows a fault at the variants so far

@@ -1,6 +1,4 @@
-use Rattle.std.proofs.Common.{◌+◌, ◌-◌, Err, length, ap}
-use Rattle.ncl_space.proofs.MakingLaws.{handed_on}
-use Rattle.ncl_faults.specs.declared.variant.Variant.TheVariants.{Cell}
+use Rattle.ncl_reaching.proofs.Terms.{Cell, Err, ap, handed_on, length, ◌+◌, ◌-◌}
 use Rattle.ncl_reaching.proofs.asking.found_at.Goals as goal
 
 pub returns-in_err-word-in-Cell-clause-full : goal.returns-in_err-word-in-Cell-clause-full

@@ -1,5 +1,4 @@
-use Rattle.std.proofs.Common.{◌≡◌, Some, sym, ap, ◌∙◌}
-use Rattle.std.specs.Option.{option_map}
+use Rattle.ncl_reaching.proofs.Terms.{Some, ap, option_map, sym, ◌∙◌, ◌≡◌}
 use Rattle.ncl_complete.specs.declared.rail_fault.RailFault.TheVariants as rail
 use Rattle.ncl_reaching.proofs.QuestionLaws.{rail_shown, outputs-found}
 use Rattle.ncl_reaching.proofs.asking.found_in_outputs.Goals as goal

@@ -1,16 +1,4 @@
-use Rattle.std.proofs.Common.{◌≡◌, ◌≢◌, ◌<◌, [], ◌∷◌, ◌++◌, length, sym, ap, ◌∙◌, subst, rules}
-use Rattle.std.specs.Prelude.{All}
-use Rattle.ncl_shape.specs.declared.item.Item.{Item}
-use Rattle.ncl_shape.specs.declared.item.Item.TheVariants.{Cell as Fire}
-use Rattle.ncl_faults.specs.Faults.{Incomplete}
-use Rattle.ncl_machine.specs.Held.{InRange, meaning}
-use Rattle.ncl_machine.specs.State.{State, reset}
-use Rattle.ncl_machine.specs.Steps.{enabled}
-use Rattle.ncl_machine.proofs.NamedRails.{bit_at}
-use Rattle.ncl_hazard.specs.Schedule.{acknowledging, lacking}
-use Rattle.ncl_hazard.specs.Trying.{Loses, tried}
-use Rattle.ncl_hazard.proofs.ShownLaws.{order-of}
-use Rattle.ncl_reaching.specs.Breaking.{register_cell}
+use Rattle.ncl_reaching.proofs.Terms.{All, Fire, InRange, Incomplete, Item, Loses, State, [], acknowledging, ap, bit_at, enabled, lacking, length, meaning, order-of, register_cell, reset, rules, subst, sym, tried, ◌++◌, ◌<◌, ◌∙◌, ◌∷◌, ◌≡◌, ◌≢◌}
 use Rattle.ncl_reaching.proofs.BreakingLaws.{Takes, bank-there, bit-of_word, bit-there, cell-takes}
 use Rattle.ncl_reaching.proofs.breaking.bit_run.Goals as goal
 

@@ -1,17 +1,4 @@
-use Rattle.std.proofs.Common.{◌≡◌, ◌≢◌, ◌+◌, [], ◌∷◌, ◌++◌, Some, get_or, sym, ap, ◌∙◌, subst, rules}
-use Rattle.std.specs.Prelude.{All, slice_get}
-use Rattle.ncl_base.proofs.Places.{place_read}
-use Rattle.ncl_netlist.specs.declared.ids.CellId.{CellId}
-use Rattle.ncl_shape.specs.declared.item.Item.{Item}
-use Rattle.ncl_shape.specs.declared.item.Item.TheVariants.{Cell as Fire}
-use Rattle.ncl_shape.specs.Stage.{StageData}
-use Rattle.ncl_faults.specs.Faults.{Orphan}
-use Rattle.ncl_machine.specs.Held.{InRange, meaning}
-use Rattle.ncl_machine.specs.State.{State, reset}
-use Rattle.ncl_machine.specs.Steps.{enabled}
-use Rattle.ncl_hazard.specs.Schedule.{coming, going}
-use Rattle.ncl_hazard.specs.Trying.{Loses, tried}
-use Rattle.ncl_hazard.proofs.ShownLaws.{order-of}
+use Rattle.ncl_reaching.proofs.Terms.{All, CellId, Fire, InRange, Item, Loses, Orphan, Some, StageData, State, [], ap, coming, enabled, get_or, going, meaning, order-of, place_read, reset, rules, slice_get, subst, sym, tried, ◌++◌, ◌+◌, ◌∙◌, ◌∷◌, ◌≡◌, ◌≢◌}
 use Rattle.ncl_reaching.proofs.BreakingLaws.{Takes, before-within, place-takes}
 use Rattle.ncl_reaching.proofs.breaking.gate_run.Goals as goal
 

@@ -1,7 +1,4 @@
-use Rattle.std.proofs.Common.{sym, ◌∙◌, subst}
-use Rattle.std.specs.Prelude.{All}
-use Rattle.ncl_faults.specs.Faults.{BothRails}
-use Rattle.ncl_machine.specs.Held.{InRange, meaning}
+use Rattle.ncl_reaching.proofs.Terms.{All, BothRails, InRange, meaning, subst, sym, ◌∙◌}
 use Rattle.ncl_reaching.proofs.BreakingLaws.{happened-so, illegal-breaks, way-tried}
 use Rattle.ncl_reaching.proofs.breaking.illegal_run.Goals as goal
 

@@ -1,11 +1,4 @@
-use Rattle.std.proofs.Common.{◌≡◌, [], ◌∷◌, sym, ◌∙◌, subst}
-use Rattle.std.specs.Prelude.{All}
-use Rattle.ncl_faults.specs.Faults.{NoRail}
-use Rattle.ncl_machine.specs.Held.{InRange, meaning}
-use Rattle.ncl_machine.specs.State.{State, reset}
-use Rattle.ncl_hazard.specs.Trying.{tried}
-use Rattle.ncl_hazard.proofs.ShownLaws.{order-of}
-use Rattle.ncl_reaching.specs.Breaking.{GoesToStop}
+use Rattle.ncl_reaching.proofs.Terms.{All, GoesToStop, InRange, NoRail, State, [], meaning, order-of, reset, subst, sym, tried, ◌∙◌, ◌∷◌, ◌≡◌}
 use Rattle.ncl_reaching.proofs.BreakingLaws.{happened-so, stop-breaks, way-tried}
 use Rattle.ncl_reaching.proofs.breaking.stopping_run.Goals as goal
 

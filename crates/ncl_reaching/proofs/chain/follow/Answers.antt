@@ -1,8 +1,4 @@
-use Rattle.std.proofs.Common.{◌≡◌, ℕ, List, ◌++◌, map, append_assoc, sym, ap, ◌∙◌, subst}
-use Rattle.ncl_shape.specs.declared.rails.Rails.{Rails}
-use Rattle.ncl_shape.specs.declared.stage.StageCell.{StageCell}
-use Rattle.ncl_shape.specs.Stage.{StageData, IsStage}
-use Rattle.ncl_reaching.specs.Chain.{by_net, followed, followers}
+use Rattle.ncl_reaching.proofs.Terms.{IsStage, List, Rails, StageCell, StageData, ap, append_assoc, by_net, followed, followers, map, subst, sym, ℕ, ◌++◌, ◌∙◌, ◌≡◌}
 use Rattle.ncl_reaching.proofs.Following.{followed-is_stage}
 use Rattle.ncl_reaching.proofs.chain.follow.Goals as goal
 

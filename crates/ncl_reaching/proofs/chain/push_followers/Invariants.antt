@@ -1,5 +1,4 @@
-use Rattle.std.proofs.Common.{◌≡◌, ◌++◌, take}
-use Rattle.ncl_reaching.specs.Chain.{followers}
+use Rattle.ncl_reaching.proofs.Terms.{followers, take, ◌++◌, ◌≡◌}
 use Rattle.ncl_reaching.proofs.chain.push_followers.Given as goal
 
 -- the followers of the bits so far stand after the others

@@ -1,5 +1,4 @@
-use Rattle.std.proofs.Common.{◌≡◌, ◌++◌, map, take}
-use Rattle.ncl_reaching.specs.Chain.{by_net}
+use Rattle.ncl_reaching.proofs.Terms.{by_net, map, take, ◌++◌, ◌≡◌}
 use Rattle.ncl_reaching.proofs.chain.push_gates.Given as goal
 
 -- the gates so far stand after the others

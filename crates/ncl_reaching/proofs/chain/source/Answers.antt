@@ -1,6 +1,4 @@
-use Rattle.std.proofs.Common.{◌≡◌, ◌≤◌, length, [], ◌∙◌, sym, subst, arith}
-use Rattle.ncl_shape.specs.Stage.{IsStage}
-use Rattle.ncl_cell_roles.proofs.LaidOut.{laid_out}
+use Rattle.ncl_reaching.proofs.Terms.{IsStage, [], arith, laid_out, length, subst, sym, ◌∙◌, ◌≡◌, ◌≤◌}
 use Rattle.ncl_reaching.proofs.ChainLaws.{chained}
 use Rattle.ncl_reaching.proofs.chain.source.Goals as goal
 

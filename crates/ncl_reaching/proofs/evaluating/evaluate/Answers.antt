@@ -1,7 +1,4 @@
-use Rattle.std.proofs.Common.{◌≡◌, ◌<◌, List, length, get_or, length-set, sym, ap, ◌∙◌, subst}
-use Rattle.ncl_shape.specs.declared.stage.StageCell.{StageCell}
-use Rattle.ncl_faults.specs.Values.{holds}
-use Rattle.ncl_reaching.specs.Evaluating.{value_in}
+use Rattle.ncl_reaching.proofs.Terms.{List, StageCell, ap, get_or, holds, length, length-set, subst, sym, value_in, ◌<◌, ◌∙◌, ◌≡◌}
 use Rattle.ncl_reaching.proofs.EvaluatingLaws.{evaluated-turn}
 use Rattle.ncl_reaching.proofs.evaluating.evaluate.Goals as goal
 

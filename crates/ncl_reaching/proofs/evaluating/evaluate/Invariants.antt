@@ -1,6 +1,4 @@
-use Rattle.std.proofs.Common.{◌≡◌, ℕ, length, take}
-use Rattle.ncl_faults.specs.Pass.{pass}
-use Rattle.ncl_reaching.specs.Evaluating.{none_low, value_in}
+use Rattle.ncl_reaching.proofs.Terms.{length, none_low, pass, take, value_in, ℕ, ◌≡◌}
 use Rattle.ncl_reaching.proofs.evaluating.evaluate.Given as goal
 
 -- the gates so far have their values

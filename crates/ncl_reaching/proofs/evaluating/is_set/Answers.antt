@@ -1,8 +1,4 @@
-use Rattle.std.proofs.Common.{length, ap, ◌∙◌, subst, ◌≤◌}
-use Rattle.std.proofs.lemmas.List.{take_all}
-use Rattle.ncl_gates.specs.Gate.{set_of}
-use Rattle.ncl_shape.specs.Closure.{pin_values}
-use Rattle.ncl_reaching.specs.Evaluating.{value_in}
+use Rattle.ncl_reaching.proofs.Terms.{ap, length, pin_values, set_of, subst, take_all, value_in, ◌∙◌, ◌≤◌}
 use Rattle.ncl_reaching.proofs.evaluating.is_set.Goals as goal
 
 pub returns : goal.returns

@@ -1,6 +1,4 @@
-use Rattle.std.proofs.Common.{◌≡◌, take}
-use Rattle.ncl_shape.specs.Closure.{pin_values}
-use Rattle.ncl_reaching.specs.Evaluating.{value_in}
+use Rattle.ncl_reaching.proofs.Terms.{pin_values, take, value_in, ◌≡◌}
 use Rattle.ncl_reaching.proofs.evaluating.is_set.Given as goal
 
 -- the pins so far have their values

@@ -1,11 +1,5 @@
-use Rattle.std.proofs.Common.{◌≡◌, ℕ, ◌+◌, ◌-◌, ◌<◌, Bool, true, false, List, length, get_or, drop, length-set, sym, ap, ◌∙◌, arith}
+use Rattle.ncl_reaching.proofs.Terms.{Bool, List, NetId, Rails, among, ap, arith, at_rail, drop, false, get_or, length, length-set, named_rails, rail_of, sym, true, value_in, ℕ, ◌+◌, ◌-◌, ◌<◌, ◌∙◌, ◌≡◌}
 use Rattle.std.specs.Prelude.{◌||◌}
-use Rattle.ncl_netlist.specs.declared.ids.NetId.{NetId}
-use Rattle.ncl_shape.specs.declared.rails.Rails.{Rails}
-use Rattle.ncl_shape.specs.Nets.{among}
-use Rattle.ncl_shape.specs.Stage.{named_rails, rail_of}
-use Rattle.ncl_faults.proofs.WiringLaws.{at_rail}
-use Rattle.ncl_reaching.specs.Evaluating.{value_in}
 use Rattle.ncl_reaching.proofs.EvaluatingLaws.{raised-turn}
 use Rattle.ncl_reaching.proofs.evaluating.raise.Goals.{then-bits-left, else-bits-left}
 use Rattle.ncl_reaching.proofs.evaluating.raise.Goals as goal

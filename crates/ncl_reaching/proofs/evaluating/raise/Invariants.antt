@@ -1,7 +1,4 @@
-use Rattle.std.proofs.Common.{◌≡◌, ◌≤◌, ◌||◌, ℕ, drop, length}
-use Rattle.ncl_shape.specs.Nets.{among}
-use Rattle.ncl_shape.specs.Stage.{named_rails}
-use Rattle.ncl_reaching.specs.Evaluating.{value_in}
+use Rattle.ncl_reaching.proofs.Terms.{among, drop, length, named_rails, value_in, ℕ, ◌||◌, ◌≡◌, ◌≤◌}
 use Rattle.ncl_reaching.proofs.evaluating.raise.Given as goal
 
 -- the rails of the bits from here on are raised

@@ -1,6 +1,4 @@
-use Rattle.std.proofs.Common.{◌≡◌, map, take}
-use Rattle.ncl_shape.specs.declared.rails.Rails.{Rails}
-use Rattle.ncl_reaching.specs.Evaluating.{value_in}
+use Rattle.ncl_reaching.proofs.Terms.{Rails, map, take, value_in, ◌≡◌}
 use Rattle.ncl_reaching.proofs.evaluating.read.Given as goal
 
 -- the bits so far are read

@@ -1,14 +1,4 @@
-use Rattle.std.proofs.Common.{◌≡◌, ℕ, ◌<◌, false, ◌||◌, List, length, map, sym, ap, ◌∙◌, subst}
-use Rattle.std.specs.Prelude.{All}
-use Rattle.std.proofs.lemmas.List.{length-replicate}
-use Rattle.std.proofs.lemmas.List.Elements.{All-contains}
-use Rattle.ncl_base.proofs.Members.{Member, Member-append_right, Member-map, All-from_members, Contains-from_Member}
-use Rattle.ncl_shape.specs.declared.rails.Rails.{Rails}
-use Rattle.ncl_shape.specs.declared.stage.StageCell.{StageCell}
-use Rattle.ncl_shape.specs.Nets.{among}
-use Rattle.ncl_shape.specs.Stage.{StageData, nets_of, rail_nets, out_of, named_rails}
-use Rattle.ncl_faults.specs.Pass.{pass}
-use Rattle.ncl_reaching.specs.Evaluating.{none_low, value_in}
+use Rattle.ncl_reaching.proofs.Terms.{All, All-contains, All-from_members, Contains-from_Member, List, Member, Member-append_right, Member-map, Rails, StageCell, StageData, among, ap, false, length, length-replicate, map, named_rails, nets_of, none_low, out_of, pass, rail_nets, subst, sym, value_in, ℕ, ◌<◌, ◌||◌, ◌∙◌, ◌≡◌}
 use Rattle.ncl_reaching.proofs.EvaluatingLaws.{evaluated, read-is}
 use Rattle.ncl_reaching.proofs.evaluating.word_on.Goals as goal
 

@@ -1,5 +1,4 @@
-use Rattle.std.proofs.Common.{◌≡◌, drop}
-use Rattle.ncl_reaching.specs.Asking.{is_first}
+use Rattle.ncl_reaching.proofs.Terms.{drop, is_first, ◌≡◌}
 use Rattle.ncl_reaching.proofs.lesser.is_first.Given as goal
 
 -- the bits so far are the same

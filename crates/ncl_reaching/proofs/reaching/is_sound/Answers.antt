@@ -1,5 +1,4 @@
-use Rattle.std.proofs.Common.{[], ◌∷◌, sym, ◌∙◌, arith}
-use Rattle.ncl_verdict.proofs.Sound.{judgement-sound}
+use Rattle.ncl_reaching.proofs.Terms.{[], arith, judgement-sound, sym, ◌∙◌, ◌∷◌}
 use Rattle.ncl_reaching.proofs.reaching.is_sound.Goals as goal
 
 pub returns-in-Accepted : goal.returns-in-Accepted

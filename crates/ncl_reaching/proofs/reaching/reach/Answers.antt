@@ -1,14 +1,4 @@
-use Rattle.std.proofs.Common.{◌≡◌, ℕ, ◌<◌, ◌≤◌, List, Some, None, Err, length, get_or, sym, ap, ◌∙◌, subst}
-use Rattle.std.specs.Prelude.{slice_get}
-use Rattle.std.specs.Option.{option_map}
-use Rattle.std.proofs.lemmas.Result.{IfOk-weaker}
-use Rattle.ncl_base.proofs.Places.{place_read}
-use Rattle.ncl_shape.specs.Stage.{StageData}
-use Rattle.ncl_shape.specs.Pipeline.{PipelineData}
-use Rattle.ncl_refusal.proofs.Exact.{reached-insensitive}
-use Rattle.ncl_reaching.specs.Answers.{Answers, IsPastLimit, Means}
-use Rattle.ncl_reaching.specs.Asking.{fault_of, shown_of}
-use Rattle.ncl_reaching.specs.Reaching.{first_reached}
+use Rattle.ncl_reaching.proofs.Terms.{Answers, Err, IfOk-weaker, IsPastLimit, List, Means, None, PipelineData, Some, StageData, ap, fault_of, first_reached, get_or, length, option_map, place_read, reached-insensitive, shown_of, slice_get, subst, sym, ℕ, ◌<◌, ◌∙◌, ◌≡◌, ◌≤◌}
 use Rattle.ncl_reaching.proofs.ReachingLaws.{all-sound}
 use Rattle.ncl_reaching.proofs.StageTurn.{answer-here, can-go_on, counted-here, ends-here, fault-brought, fault-here, first-found, means-here, next-is, past-limit, sound-accepted, sound-asked, wide-here, within-here, word-told}
 use Rattle.ncl_reaching.proofs.reaching.reach.Goals as goal

@@ -1,6 +1,4 @@
-use Rattle.std.proofs.Common.{◌≡◌}
-use Rattle.ncl_reaching.specs.Chain.{chain}
-use Rattle.ncl_reaching.specs.Reaching.{AreSoundWhereReached}
+use Rattle.ncl_reaching.proofs.Terms.{AreSoundWhereReached, chain, ◌≡◌}
 use Rattle.ncl_reaching.proofs.reaching.reach.Given as goal
 
 -- the chain has the stages so far, which show no fault at words that inputs bring to them

@@ -1,8 +1,4 @@
-use Rattle.std.proofs.Common.{◌≡◌, ◌++◌, vec_len, sym, ap, ◌∙◌, subst, arith}
-use Rattle.std.specs.Prelude.{All}
-use Rattle.ncl_machine.specs.Held.{InRange, meaning}
-use Rattle.ncl_hazard.specs.Trying.{happened}
-use Rattle.ncl_hazard.proofs.ItemLaws.{all-tried}
+use Rattle.ncl_reaching.proofs.Terms.{All, InRange, all-tried, ap, arith, happened, meaning, subst, sym, vec_len, ◌++◌, ◌∙◌, ◌≡◌}
 use Rattle.ncl_reaching.proofs.ToStop.{goes-more, goes-to_stop}
 use Rattle.ncl_reaching.proofs.stopping.push_stop.Goals as goal
 

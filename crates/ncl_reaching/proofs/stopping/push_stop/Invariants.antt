@@ -1,5 +1,4 @@
-use Rattle.std.proofs.Common.{◌-◌, ◌^◌, length}
-use Rattle.ncl_machine.specs.Held.{IsFor, meaning}
+use Rattle.ncl_reaching.proofs.Terms.{IsFor, length, meaning, ◌-◌, ◌^◌}
 use Rattle.ncl_reaching.proofs.ToStop.{GoesOn}
 use Rattle.ncl_reaching.proofs.stopping.push_stop.Given as goal
 

@@ -1,15 +1,4 @@
-use Rattle.std.proofs.Common.{◌+◌, ◌-◌, get_or, refl, sym, ap, subst, arith}
-use Rattle.std.proofs.lemmas.Bool.{both_ways}
-use Rattle.std.proofs.lemmas.List.{length-map}
-use Rattle.std.proofs.lemmas.Option.{slice_get_within}
-use Rattle.ncl_netlist.specs.declared.ids.NetId.{NetId}
-use Rattle.ncl_cell_rules.specs.declared.source.Source.TheVariants.{Ack}
-use Rattle.ncl_cell_rules.specs.Origin.{AckOf}
-use Rattle.ncl_cell_rules.specs.Sources.{IsSourceOf}
-use Rattle.ncl_cell_rules.proofs.PinNumbers.{no_net}
-use Rattle.ncl_cell_rules.proofs.SourceSteps.{only_from_source}
-use Rattle.ncl_cell_rules.proofs.Summaries.{named}
-use Rattle.ncl_shape.specs.ChainSteps.{numbers_of}
+use Rattle.ncl_shape.proofs.Terms.{Ack, AckOf, IsSourceOf, NetId, ap, arith, both_ways, get_or, length-map, named, no_net, numbers_of, only_from_source, refl, slice_get_within, subst, sym, ◌+◌, ◌-◌}
 use Rattle.ncl_shape.proofs.AcknowledgeLaws.{acknowledged, acknowledged_more, acknowledged_at}
 use Rattle.ncl_shape.proofs.NetSources.{source_of_origin}
 use Rattle.ncl_shape.proofs.BankNets.{chain_within}

@@ -1,5 +1,4 @@
-use Rattle.std.proofs.Common.{◌++◌, ◌∷◌, [], ◌∙◌, ap, sym, map, set}
-use Rattle.std.proofs.lemmas.List.{map-set, get_or-map}
+use Rattle.ncl_shape.proofs.Terms.{[], ap, get_or-map, map, map-set, set, sym, ◌++◌, ◌∙◌, ◌∷◌}
 use Rattle.ncl_shape.proofs.bank_lists.put.Goals as goal
 
 pub returns : goal.returns

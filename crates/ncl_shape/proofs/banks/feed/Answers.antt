@@ -1,8 +1,4 @@
-use Rattle.std.proofs.Common.{◌<◌, length, get_or, sym, ap, ◌∙◌, subst, arith}
-use Rattle.ncl_cell_rules.specs.Origin.{OnPin, A}
-use Rattle.ncl_cell_rules.specs.Sources.{IsSourceOf}
-use Rattle.ncl_cell_rules.proofs.PinNumbers.{no_net, register_pins, on_pin_of, pin_inside}
-use Rattle.ncl_cell_rules.proofs.FirstRegisters.{first_within, first_read, first_none}
+use Rattle.ncl_shape.proofs.Terms.{A, IsSourceOf, OnPin, ap, arith, first_none, first_read, first_within, get_or, length, no_net, on_pin_of, pin_inside, register_pins, subst, sym, ◌<◌, ◌∙◌}
 use Rattle.ncl_shape.proofs.BankFeeds.{feed_of}
 use Rattle.ncl_shape.proofs.banks.feed.Goals as goal
 

@@ -1,6 +1,4 @@
-use Rattle.std.proofs.Common.{ℕ, ◌<◌}
-use Rattle.ncl_cell_rules.specs.Origin.{IsRegister}
-use Rattle.ncl_cell_rules.specs.Free.{AtCell}
+use Rattle.ncl_shape.proofs.Terms.{AtCell, IsRegister, ℕ, ◌<◌}
 use Rattle.ncl_shape.proofs.banks.has_register.Given as goal
 
 abbrev pub invariant-loop-cell : goal.invariant-loop-cell

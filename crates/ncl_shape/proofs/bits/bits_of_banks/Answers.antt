@@ -1,8 +1,4 @@
-use Rattle.std.proofs.Common.{◌≡◌, ◌+◌, [], length, map, replicate, sym, ap, ◌∙◌, subst, arith}
-use Rattle.std.specs.List.{AllZip}
-use Rattle.ncl_cell_rules.specs.Origin.{CellAt}
-use Rattle.ncl_cell_rules.proofs.TableSteps.{cell_read}
-use Rattle.ncl_shape.specs.FoundChain.{requests_of}
+use Rattle.ncl_shape.proofs.Terms.{AllZip, CellAt, [], ap, arith, cell_read, length, map, replicate, requests_of, subst, sym, ◌+◌, ◌∙◌, ◌≡◌}
 use Rattle.ncl_shape.proofs.ChainNumbers.{bank_number, one_place, as_many_requests, number_in}
 use Rattle.ncl_shape.proofs.BitSteps.{AreBitsBelow, lists_begin, lists_more, lists_pass, lists_whole}
 use Rattle.ncl_shape.proofs.bits.bits_of_banks.Goals as goal

@@ -1,6 +1,4 @@
-use Rattle.std.proofs.Common.{map}
-use Rattle.std.specs.List.{AllZip}
-use Rattle.ncl_shape.specs.FoundChain.{requests_of}
+use Rattle.ncl_shape.proofs.Terms.{AllZip, map, requests_of}
 use Rattle.ncl_shape.proofs.BitSteps.{AreBitsBelow}
 use Rattle.ncl_shape.proofs.bits.bits_of_banks.Given as goal
 

@@ -1,7 +1,4 @@
-use Rattle.std.proofs.Common.{◌≡◌, Bool, true, false, if◌then◌else◌, Some, None, sym, ap, ◌∙◌}
-use Rattle.std.proofs.lemmas.Bool.{both_ways, false_from_ne_true}
-use Rattle.ncl_gates.specs.Cell.{is_data_register}
-use Rattle.ncl_cell_rules.proofs.BitTests.{data_of_driver}
+use Rattle.ncl_shape.proofs.Terms.{Bool, None, Some, ap, both_ways, data_of_driver, false, false_from_ne_true, if◌then◌else◌, is_data_register, sym, true, ◌∙◌, ◌≡◌}
 use Rattle.ncl_shape.proofs.bits.reset_value.Goals as goal
 
 pub returns-then-is_data_behind : goal.returns-then-is_data_behind

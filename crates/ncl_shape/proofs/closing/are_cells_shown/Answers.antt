@@ -1,11 +1,4 @@
-use Rattle.std.proofs.Common.{length, refl, ap, arith, below_more}
-use Rattle.std.proofs.lemmas.Option.{slice_get_within}
-use Rattle.ncl_base.proofs.Members.{slice_get-from_Contains}
-use Rattle.ncl_netlist.specs.declared.cell.Cell.{Cell}
-use Rattle.ncl_netlist.specs.Netlist.{NetlistData}
-use Rattle.ncl_cell_rules.specs.Free.{AtCell}
-use Rattle.ncl_cell_rules.proofs.TableSteps.{cell_read, rule_at}
-use Rattle.ncl_shape.specs.ChainSteps.{IsShownCell}
+use Rattle.ncl_shape.proofs.Terms.{AtCell, Cell, IsShownCell, NetlistData, ap, arith, below_more, cell_read, length, refl, rule_at, slice_get-from_Contains, slice_get_within}
 use Rattle.ncl_shape.proofs.closing.are_cells_shown.Goals as goal
 
 pub loop-cell-preserved : goal.loop-cell-preserved

@@ -1,6 +1,4 @@
-use Rattle.std.proofs.Common.{ℕ, ◌<◌}
-use Rattle.ncl_cell_rules.specs.Free.{AtCell}
-use Rattle.ncl_shape.specs.ChainSteps.{IsShownCell}
+use Rattle.ncl_shape.proofs.Terms.{AtCell, IsShownCell, ℕ, ◌<◌}
 use Rattle.ncl_shape.proofs.closing.are_cells_shown.Given as goal
 
 abbrev pub invariant-loop-cell : goal.invariant-loop-cell

@@ -1,15 +1,4 @@
-use Rattle.std.proofs.Common.{◌<◌, length, inl, inr, refl, sym, ap, subst, arith, below_more}
-use Rattle.std.proofs.lemmas.Bool.{both_ways}
-use Rattle.std.proofs.lemmas.Option.{slice_get_within}
-use Rattle.ncl_base.proofs.Tests.{same_unless}
-use Rattle.ncl_cell_rules.specs.declared.source.Source.TheVariants.{Rail}
-use Rattle.ncl_cell_rules.specs.Origin.{RailOf}
-use Rattle.ncl_cell_rules.specs.Sources.{IsSourceOf}
-use Rattle.ncl_cell_rules.proofs.PortReads.{port_read}
-use Rattle.ncl_cell_rules.proofs.SourceSteps.{only_from_source}
-use Rattle.ncl_cell_rules.proofs.Summaries.{named}
-use Rattle.ncl_netlist.proofs.NetlistLaws.{ports-le-nets}
-use Rattle.ncl_shape.specs.ChainSteps.{IsShownPort}
+use Rattle.ncl_shape.proofs.Terms.{IsShownPort, IsSourceOf, Rail, RailOf, ap, arith, below_more, both_ways, inl, inr, length, named, only_from_source, port_read, ports-le-nets, refl, same_unless, slice_get_within, subst, sym, ◌<◌}
 use Rattle.ncl_shape.proofs.NetSources.{source_of_origin}
 use Rattle.ncl_shape.proofs.PortRoles.{no_output, ports_passed}
 use Rattle.ncl_shape.proofs.ShownNets.{nets_differ}

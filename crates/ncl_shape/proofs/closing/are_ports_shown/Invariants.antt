@@ -1,5 +1,4 @@
-use Rattle.std.proofs.Common.{ℕ, ◌<◌}
-use Rattle.ncl_shape.specs.ChainSteps.{IsShownPort}
+use Rattle.ncl_shape.proofs.Terms.{IsShownPort, ℕ, ◌<◌}
 use Rattle.ncl_shape.proofs.closing.are_ports_shown.Given as goal
 
 abbrev pub invariant-loop-place : goal.invariant-loop-place

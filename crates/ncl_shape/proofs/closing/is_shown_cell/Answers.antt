@@ -1,9 +1,4 @@
-use Rattle.std.proofs.Common.{refl, sym, subst}
-use Rattle.std.proofs.lemmas.Bool.{both_ways}
-use Rattle.ncl_cell_rules.specs.declared.source.Source.TheVariants.{Rail}
-use Rattle.ncl_cell_rules.specs.Origin.{RailOf}
-use Rattle.ncl_cell_rules.specs.Sources.{IsSourceOf}
-use Rattle.ncl_cell_rules.proofs.PinNumbers.{output_within}
+use Rattle.ncl_shape.proofs.Terms.{IsSourceOf, Rail, RailOf, both_ways, output_within, refl, subst, sym}
 use Rattle.ncl_shape.proofs.NetSources.{source_of_origin}
 use Rattle.ncl_shape.proofs.closing.is_shown_cell.Goals as goal
 

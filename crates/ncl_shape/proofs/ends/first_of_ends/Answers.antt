@@ -1,10 +1,4 @@
-use Rattle.std.proofs.Common.{◌≡◌, ℕ, true, false, length, Option, None, Some, is_some, refl, ap, arith}
-use Rattle.std.specs.Prelude.{MatchOption}
-use Rattle.std.proofs.lemmas.Bool.{both_ways}
-use Rattle.ncl_netlist.specs.declared.ids.NetId.{NetId}
-use Rattle.ncl_netlist.specs.Netlist.{NetlistData}
-use Rattle.ncl_shape.specs.Chain.{IsBank, HasEnds, HasOne, IsFirstBank, IsLastBank}
-use Rattle.ncl_shape.specs.ChainSteps.{IsOnly}
+use Rattle.ncl_shape.proofs.Terms.{HasEnds, HasOne, IsBank, IsFirstBank, IsLastBank, IsOnly, MatchOption, NetId, NetlistData, None, Option, Some, ap, arith, both_ways, false, is_some, length, refl, true, ℕ, ◌≡◌}
 use Rattle.ncl_shape.proofs.BankNets.{bank_within}
 use Rattle.ncl_shape.proofs.OnlyNets.{IsOneBelow, one_kept, one_taken, one_whole}
 use Rattle.ncl_shape.proofs.ends.first_of_ends.Goals as goal

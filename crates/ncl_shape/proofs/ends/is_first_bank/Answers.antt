@@ -1,6 +1,4 @@
-use Rattle.std.proofs.Common.{◌≡◌, Some, sym, ap, ◌∙◌, subst}
-use Rattle.ncl_cell_rules.specs.declared.source.Source.TheVariants.{Port}
-use Rattle.ncl_shape.specs.ChainSteps.{IsFeedOf}
+use Rattle.ncl_shape.proofs.Terms.{IsFeedOf, Port, Some, ap, subst, sym, ◌∙◌, ◌≡◌}
 use Rattle.ncl_shape.proofs.BankFeeds.{feed_of_first}
 use Rattle.ncl_shape.proofs.ends.is_first_bank.Goals as goal
 

@@ -1,7 +1,4 @@
-use Rattle.std.proofs.Common.{is_some, inl, inr, sym, ap, ◌∙◌}
-use Rattle.std.proofs.lemmas.Bool.{both_ways, cases_Bool}
-use Rattle.ncl_cell_rules.proofs.SourceTests.{none_from, some_from, port_of_none, none_of_port}
-use Rattle.ncl_cell_rules.proofs.TreeTests.{request_by_first, first_by_request}
+use Rattle.ncl_shape.proofs.Terms.{ap, both_ways, cases_Bool, first_by_request, inl, inr, is_some, none_from, none_of_port, port_of_none, request_by_first, some_from, sym, ◌∙◌}
 use Rattle.ncl_shape.proofs.ends.is_last_bank.Goals as goal
 
 pub returns-then-is_some : goal.returns-then-is_some

@@ -1,10 +1,4 @@
-use Rattle.std.proofs.Common.{◌≡◌, ◌≤◌, ◌+◌, ◌-◌, length, map, sym, ap, ◌∙◌, subst, arith}
-use Rattle.std.specs.List.{AllZip}
-use Rattle.ncl_shape.specs.declared.bank.TheConstants.{MOST_BANKS}
-use Rattle.ncl_shape.specs.Chain.{IsChain, IsPath}
-use Rattle.ncl_shape.specs.Shape.{AreRailsOf, AreInputsOf, Shape}
-use Rattle.ncl_shape.specs.FoundChain.{requests_of}
-use Rattle.ncl_shape.specs.FoundParts.{AreGatesOf, AreStagesOf, IsFewBitBank}
+use Rattle.ncl_shape.proofs.Terms.{AllZip, AreGatesOf, AreInputsOf, AreRailsOf, AreStagesOf, IsChain, IsFewBitBank, IsPath, MOST_BANKS, Shape, ap, arith, length, map, requests_of, subst, sym, ◌+◌, ◌-◌, ◌∙◌, ◌≡◌, ◌≤◌}
 use Rattle.ncl_shape.proofs.ChainNumbers.{as_many_requests}
 use Rattle.ncl_shape.proofs.ShapeLaws.{requests}
 use Rattle.ncl_shape.proofs.Assembling.{requests_are, own_requests, bits_of_bank, shape_is}

@@ -1,10 +1,4 @@
-use Rattle.std.proofs.Common.{◌≡◌, ◌+◌, rules, length, get_or, take, sym, ap, ◌∙◌, subst, arith}
-use Rattle.std.specs.List.{AllZip}
-use Rattle.std.proofs.lemmas.List.{length_push, take_all}
-use Rattle.std.proofs.lemmas.Iterator.Adapters.{YieldsList-from_vec}
-use Rattle.std.proofs.lemmas.Iterator.Consumers.{YieldsList-turn, YieldsList-end}
-use Rattle.ncl_shape.specs.FoundChain.{requests_of}
-use Rattle.ncl_shape.specs.FoundParts.{IsFewBitBank}
+use Rattle.ncl_shape.proofs.Terms.{AllZip, IsFewBitBank, YieldsList-end, YieldsList-from_vec, YieldsList-turn, ap, arith, get_or, length, length_push, requests_of, rules, subst, sym, take, take_all, ◌+◌, ◌∙◌, ◌≡◌}
 use Rattle.ncl_shape.proofs.Assembling.{list_within, as_many_lists, made_bank}
 use Rattle.ncl_shape.proofs.ZippedLists.{AllZip-more}
 use Rattle.ncl_shape.proofs.finding.banks_of.Goals as goal

@@ -1,7 +1,4 @@
-use Rattle.std.proofs.Common.{◌≡◌, length, take}
-use Rattle.std.specs.List.{AllZip}
-use Rattle.ncl_shape.specs.FoundChain.{requests_of}
-use Rattle.ncl_shape.specs.FoundParts.{IsFewBitBank}
+use Rattle.ncl_shape.proofs.Terms.{AllZip, IsFewBitBank, length, requests_of, take, ◌≡◌}
 use Rattle.ncl_shape.proofs.finding.banks_of.Given as goal
 
 abbrev pub invariant-loop-list : goal.invariant-loop-list

@@ -1,9 +1,4 @@
-use Rattle.std.proofs.Common.{◌≡◌, sym, subst}
-use Rattle.std.specs.Prelude.{IfErr, IsErrAnd}
-use Rattle.std.specs.declared.result.Result.{Result}
-use Rattle.std.specs.declared.result.Result.TheVariants.{Ok, Err}
-use Rattle.ncl_shape.specs.declared.fault.ShapeFault.{ShapeFault}
-use Rattle.ncl_shape.specs.Shape.{IsShapeFault, shape_fault_of}
+use Rattle.ncl_shape.proofs.Terms.{Err, IfErr, IsErrAnd, IsShapeFault, Ok, Result, ShapeFault, shape_fault_of, subst, sym, ◌≡◌}
 use Rattle.ncl_shape.proofs.FaultCases.{of_cells, of_chain}
 use Rattle.ncl_shape.proofs.finding.shape.Goals as goal
 

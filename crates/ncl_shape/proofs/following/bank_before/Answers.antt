@@ -1,5 +1,4 @@
-use Rattle.std.proofs.Common.{◌≡◌, Some, None, sym, ◌∙◌}
-use Rattle.ncl_cell_rules.specs.declared.source.Source.TheVariants.{Rail}
+use Rattle.ncl_shape.proofs.Terms.{None, Rail, Some, sym, ◌∙◌, ◌≡◌}
 use Rattle.ncl_shape.proofs.BankFeeds.{feed_of_follower}
 use Rattle.ncl_shape.proofs.following.bank_before.Goals as goal
 

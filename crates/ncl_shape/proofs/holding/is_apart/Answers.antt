@@ -1,6 +1,4 @@
-use Rattle.std.proofs.Common.{◌≡◌, ◌<◌, true, false, not, get_or, length, refl, sym, ap, ◌∙◌}
-use Rattle.std.proofs.lemmas.Bool.{both_ways, false_from_ne_true}
-use Rattle.ncl_cell_rules.proofs.DataBanks.{bank_of_mark, mark_of_bank}
+use Rattle.ncl_shape.proofs.Terms.{ap, bank_of_mark, both_ways, false, false_from_ne_true, get_or, length, mark_of_bank, not, refl, sym, true, ◌<◌, ◌∙◌, ◌≡◌}
 use Rattle.ncl_shape.proofs.Followers.{none_follows, one_follows, only_follows}
 use Rattle.ncl_shape.proofs.BankNets.{follower_within}
 use Rattle.ncl_shape.proofs.holding.is_apart.Goals as goal

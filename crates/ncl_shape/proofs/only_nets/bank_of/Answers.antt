@@ -1,9 +1,4 @@
-use Rattle.std.proofs.Common.{ℕ, Option, sym, subst}
-use Rattle.std.specs.Prelude.{MatchOption}
-use Rattle.ncl_netlist.specs.declared.ids.NetId.{NetId}
-use Rattle.ncl_netlist.specs.Netlist.{NetlistData}
-use Rattle.ncl_shape.specs.declared.chain.Relation.{Relation}
-use Rattle.ncl_shape.specs.FoundChain.{Relates}
+use Rattle.ncl_shape.proofs.Terms.{MatchOption, NetId, NetlistData, Option, Relates, Relation, subst, sym, ℕ}
 use Rattle.ncl_shape.proofs.only_nets.bank_of.Goals as goal
 
 -- what is told of a net by a relation

@@ -1,5 +1,4 @@
-use Rattle.std.proofs.Common.{◌+◌, length, refl, sym, ap, subst, arith}
-use Rattle.ncl_shape.specs.FoundChain.{Relates}
+use Rattle.ncl_shape.proofs.Terms.{Relates, ap, arith, length, refl, subst, sym, ◌+◌}
 use Rattle.ncl_shape.proofs.Relations.{bank_related, net_related, related_is_one}
 use Rattle.ncl_shape.proofs.OnlyNets.{AreOnlyBelow, only_pass, only_put_back, only_second, only_whole}
 use Rattle.ncl_shape.proofs.only_nets.only_nets.Goals as goal

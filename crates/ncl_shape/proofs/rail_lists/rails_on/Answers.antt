@@ -1,7 +1,4 @@
-use Rattle.std.proofs.Common.{◌+◌, take, get_or, refl, sym, subst}
-use Rattle.std.specs.List.{AllZip}
-use Rattle.std.proofs.lemmas.Option.{slice_get-get_or}
-use Rattle.ncl_shape.specs.FoundParts.{AreOnSide}
+use Rattle.ncl_shape.proofs.Terms.{AllZip, AreOnSide, get_or, refl, slice_get-get_or, subst, sym, take, ◌+◌}
 use Rattle.ncl_shape.proofs.ZippedLists.{AllZip-more}
 use Rattle.ncl_shape.proofs.BitCells.{no_bit, zero_within, one_within, zero_pin, one_pin, on_side}
 use Rattle.ncl_shape.proofs.rail_lists.rails_on.Goals as goal

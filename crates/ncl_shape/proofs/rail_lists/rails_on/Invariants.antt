@@ -1,6 +1,4 @@
-use Rattle.std.proofs.Common.{take}
-use Rattle.std.specs.List.{AllZip}
-use Rattle.ncl_shape.specs.FoundParts.{AreOnSide}
+use Rattle.ncl_shape.proofs.Terms.{AllZip, AreOnSide, take}
 use Rattle.ncl_shape.proofs.rail_lists.rails_on.Given as goal
 
 abbrev pub invariant-loop-bit : goal.invariant-loop-bit

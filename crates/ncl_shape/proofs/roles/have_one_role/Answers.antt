@@ -1,8 +1,4 @@
-use Rattle.std.proofs.Common.{refl, below_more}
-use Rattle.std.proofs.lemmas.Bool.{both_ways}
-use Rattle.ncl_cell_rules.specs.Origin.{IsInputPort}
-use Rattle.ncl_cell_rules.proofs.PortReads.{port_read}
-use Rattle.ncl_shape.specs.Chain.{HasOneRole}
+use Rattle.ncl_shape.proofs.Terms.{HasOneRole, IsInputPort, below_more, both_ways, port_read, refl}
 use Rattle.ncl_shape.proofs.PortRoles.{role_of_counts, no_input, ports_passed}
 use Rattle.ncl_shape.proofs.roles.have_one_role.Goals as goal
 use Rattle.ncl_shape.proofs.roles.have_one_role.Goals.{else-not-port-via-then-not-port+else-not-is_one_role, else-not-port-via-else-not-port}

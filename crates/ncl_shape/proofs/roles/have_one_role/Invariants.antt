@@ -1,6 +1,4 @@
-use Rattle.std.proofs.Common.{ℕ, ◌<◌}
-use Rattle.ncl_cell_rules.specs.Origin.{IsInputPort}
-use Rattle.ncl_shape.specs.Chain.{HasOneRole}
+use Rattle.ncl_shape.proofs.Terms.{HasOneRole, IsInputPort, ℕ, ◌<◌}
 use Rattle.ncl_shape.proofs.roles.have_one_role.Given as goal
 
 abbrev pub invariant-loop-net : goal.invariant-loop-net

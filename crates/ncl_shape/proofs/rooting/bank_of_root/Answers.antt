@@ -1,8 +1,4 @@
-use Rattle.std.proofs.Common.{refl, sym, ◌∙◌, subst}
-use Rattle.std.proofs.lemmas.Bool.{both_ways}
-use Rattle.ncl_cell_rules.specs.Sources.{IsSourceOf}
-use Rattle.ncl_cell_rules.specs.Origin.{AckOf}
-use Rattle.ncl_cell_rules.specs.declared.source.Source.TheVariants.{Ack}
+use Rattle.ncl_shape.proofs.Terms.{Ack, AckOf, IsSourceOf, both_ways, refl, subst, sym, ◌∙◌}
 use Rattle.ncl_shape.proofs.NetSources.{source_of_origin}
 use Rattle.ncl_shape.proofs.rooting.bank_of_root.Goals as goal
 

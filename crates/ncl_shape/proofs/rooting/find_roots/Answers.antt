@@ -1,10 +1,4 @@
-use Rattle.std.proofs.Common.{◌≡◌, ◌+◌, None, get_or, sym, ◌∙◌, subst, arith}
-use Rattle.std.proofs.lemmas.List.{get_or_read}
-use Rattle.std.proofs.lemmas.Option.{slice_get-get_or, MatchOption-at_some, MatchOption-at_none}
-use Rattle.ncl_base.proofs.Places.{no_entry}
-use Rattle.ncl_cell_rules.proofs.PinNumbers.{no_net}
-use Rattle.ncl_shape.specs.Chain.{IsRoot}
-use Rattle.ncl_shape.specs.ChainSteps.{AreOnly, IsOnly, IsOnlyOf, net_at}
+use Rattle.ncl_shape.proofs.Terms.{AreOnly, IsOnly, IsOnlyOf, IsRoot, MatchOption-at_none, MatchOption-at_some, None, arith, get_or, get_or_read, net_at, no_entry, no_net, slice_get-get_or, subst, sym, ◌+◌, ◌∙◌, ◌≡◌}
 use Rattle.ncl_shape.proofs.BankNets.{chain_within}
 use Rattle.ncl_shape.proofs.RootLaws.{AreOnlyRoots, two_roots, no_root, roots_more, all_rooted}
 use Rattle.ncl_shape.proofs.rooting.find_roots.Goals as goal

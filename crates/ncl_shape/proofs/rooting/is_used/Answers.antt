@@ -1,6 +1,4 @@
-use Rattle.std.proofs.Common.{is_some, inl, inr, refl, sym, ap, ◌∙◌}
-use Rattle.std.proofs.lemmas.Bool.{both_ways}
-use Rattle.ncl_cell_rules.proofs.TreeTests.{request_by_first, first_by_request}
+use Rattle.ncl_shape.proofs.Terms.{ap, both_ways, first_by_request, inl, inr, is_some, refl, request_by_first, sym, ◌∙◌}
 use Rattle.ncl_shape.proofs.rooting.is_used.Goals as goal
 
 pub returns-then-is_some : goal.returns-then-is_some

@@ -1,10 +1,4 @@
-use Rattle.std.proofs.Common.{sym, subst}
-use Rattle.ncl_cell_rules.specs.Origin.{RailOf, HasOnlyOrigin}
-use Rattle.ncl_cell_rules.specs.Sources.{IsSourceOf}
-use Rattle.ncl_cell_rules.proofs.PinNumbers.{output_within}
-use Rattle.ncl_cell_rules.proofs.NetOrigins.{one_origin}
-use Rattle.ncl_cell_rules.proofs.SourceSteps.{source_from_only}
-use Rattle.ncl_cell_rules.proofs.SourceTests.{names_rail}
+use Rattle.ncl_shape.proofs.Terms.{HasOnlyOrigin, IsSourceOf, RailOf, names_rail, one_origin, output_within, source_from_only, subst, sym}
 use Rattle.ncl_shape.proofs.stage_cells.gate_of_bank.Goals as goal
 
 pub returns-in_default-source : goal.returns-in_default-source

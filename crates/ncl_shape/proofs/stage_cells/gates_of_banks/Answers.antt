@@ -1,11 +1,4 @@
-use Rattle.std.proofs.Common.{◌≡◌, ◌+◌, [], length, map, take, replicate, refl, sym, ap, ◌∙◌, subst, arith}
-use Rattle.std.specs.List.{AllZip}
-use Rattle.std.proofs.lemmas.List.{take_all}
-use Rattle.ncl_cell_rules.specs.Origin.{RailOf}
-use Rattle.ncl_cell_rules.specs.CellOrder.{IsCellOrder}
-use Rattle.ncl_cell_rules.proofs.TableSteps.{cell_of_order}
-use Rattle.ncl_cell_rules.proofs.OriginLaws.{bank_of_rail}
-use Rattle.ncl_shape.specs.FoundChain.{requests_of}
+use Rattle.ncl_shape.proofs.Terms.{AllZip, IsCellOrder, RailOf, [], ap, arith, bank_of_rail, cell_of_order, length, map, refl, replicate, requests_of, subst, sym, take, take_all, ◌+◌, ◌∙◌, ◌≡◌}
 use Rattle.ncl_shape.proofs.ChainNumbers.{bank_number, one_place, as_many_requests, number_in}
 use Rattle.ncl_shape.proofs.StageSteps.{AreGatesAmong, lists_begin, lists_put, lists_keep, lists_whole}
 use Rattle.ncl_shape.proofs.stage_cells.gates_of_banks.Goals as goal

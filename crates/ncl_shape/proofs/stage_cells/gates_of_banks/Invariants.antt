@@ -1,6 +1,4 @@
-use Rattle.std.proofs.Common.{map, take}
-use Rattle.std.specs.List.{AllZip}
-use Rattle.ncl_shape.specs.FoundChain.{requests_of}
+use Rattle.ncl_shape.proofs.Terms.{AllZip, map, requests_of, take}
 use Rattle.ncl_shape.proofs.StageSteps.{AreGatesAmong}
 use Rattle.ncl_shape.proofs.stage_cells.gates_of_banks.Given as goal
 

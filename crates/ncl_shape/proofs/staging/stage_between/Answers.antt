@@ -1,7 +1,4 @@
-use Rattle.std.proofs.Common.{sym, subst}
-use Rattle.std.specs.List.{AllZip}
-use Rattle.ncl_shape.specs.FoundParts.{AreGatesOf}
-use Rattle.ncl_shape.specs.Shape.{AreRailsOf, AreInputsOf, IsStageOf}
+use Rattle.ncl_shape.proofs.Terms.{AllZip, AreGatesOf, AreInputsOf, AreRailsOf, IsStageOf, subst, sym}
 use Rattle.ncl_shape.proofs.StageLaws.{between_is_stage, between_is_stage_of}
 use Rattle.ncl_shape.proofs.staging.stage_between.Goals as goal
 use Rattle.ncl_shape.proofs.staging.stage_between.Goals.{After-from_vec}

@@ -1,8 +1,4 @@
-use Rattle.std.proofs.Common.{◌≡◌, ◌+◌, rules, length, get_or, Some, sym, ap, ◌∙◌, subst, arith}
-use Rattle.std.specs.Prelude.{slice_get}
-use Rattle.std.proofs.lemmas.List.{length_push}
-use Rattle.std.proofs.lemmas.Iterator.Adapters.{YieldsList-from_vec}
-use Rattle.std.proofs.lemmas.Iterator.Consumers.{YieldsList-turn, YieldsList-end}
+use Rattle.ncl_shape.proofs.Terms.{Some, YieldsList-end, YieldsList-from_vec, YieldsList-turn, ap, arith, get_or, length, length_push, rules, slice_get, subst, sym, ◌+◌, ◌∙◌, ◌≡◌}
 use Rattle.ncl_shape.proofs.StageLists.{AreStagesBelow, bank_read, bank_at, next_follows, gates_at, as_many_lists, stages_more, stages_keep, stages_whole}
 use Rattle.ncl_shape.proofs.staging.stages_between.Goals as goal
 

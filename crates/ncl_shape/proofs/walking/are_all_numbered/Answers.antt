@@ -1,9 +1,4 @@
-use Rattle.std.proofs.Common.{◌≡◌, ◌<◌, ℕ, None, Some, length, is_some, refl, sym, ap, ◌∙◌, arith, below_more}
-use Rattle.std.proofs.lemmas.Bool.{both_ways}
-use Rattle.ncl_cell_rules.proofs.SourceTests.{none_from}
-use Rattle.ncl_cell_rules.proofs.TreeTests.{request_by_first, first_by_request}
-use Rattle.ncl_shape.specs.Chain.{IsBank}
-use Rattle.ncl_shape.specs.FoundChain.{number_at}
+use Rattle.ncl_shape.proofs.Terms.{IsBank, None, Some, ap, arith, below_more, both_ways, first_by_request, is_some, length, none_from, number_at, refl, request_by_first, sym, ℕ, ◌<◌, ◌∙◌, ◌≡◌}
 use Rattle.ncl_shape.proofs.BankNets.{bank_within}
 use Rattle.ncl_shape.proofs.Places.{some_entry}
 use Rattle.ncl_shape.proofs.walking.are_all_numbered.Goals as goal

@@ -1,6 +1,4 @@
-use Rattle.std.proofs.Common.{◌≡◌, ℕ, ◌<◌, Some}
-use Rattle.ncl_shape.specs.Chain.{IsBank}
-use Rattle.ncl_shape.specs.FoundChain.{number_at}
+use Rattle.ncl_shape.proofs.Terms.{IsBank, Some, number_at, ℕ, ◌<◌, ◌≡◌}
 use Rattle.ncl_shape.proofs.walking.are_all_numbered.Given as goal
 
 abbrev pub invariant-loop-net : goal.invariant-loop-net

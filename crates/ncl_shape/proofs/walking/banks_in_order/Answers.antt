@@ -1,7 +1,4 @@
-use Rattle.std.proofs.Common.{sym, ◌∙◌, subst}
-use Rattle.std.proofs.lemmas.Bool.{both_ways}
-use Rattle.ncl_shape.specs.Chain.{IsFirstBank}
-use Rattle.ncl_shape.specs.ChainSteps.{AreNumbersOf, AreAllNumbered, numbers_of}
+use Rattle.ncl_shape.proofs.Terms.{AreAllNumbered, AreNumbersOf, IsFirstBank, both_ways, numbers_of, subst, sym, ◌∙◌}
 use Rattle.ncl_shape.proofs.WalkLaws.{numbered_by_chain, chain_of_walk}
 use Rattle.ncl_shape.proofs.walking.banks_in_order.Goals as goal
 

@@ -1,10 +1,6 @@
-use Rattle.std.proofs.Common.{arith}
-use Rattle.std.proofs.lemmas.List.{length-map}
-use Rattle.ncl_netlist.specs.declared.ids.NetId.{NetId}
-use Rattle.ncl_shape.specs.ChainSteps.{numbers_of}
+use Rattle.ncl_shape.proofs.Terms.{NetId, arith, length-map, no_net, numbers_of}
 use Rattle.ncl_shape.proofs.BankNumbers.{numbers_more, numbers_whole}
 use Rattle.ncl_shape.proofs.Places.{number_of_place}
-use Rattle.ncl_cell_rules.proofs.PinNumbers.{no_net}
 use Rattle.ncl_shape.proofs.walking.numbers.Goals as goal
 
 pub loop-place-preserved : goal.loop-place-preserved

@@ -1,7 +1,4 @@
-use Rattle.std.proofs.Common.{◌+◌, ◌++◌, ◌∷◌, [], List, length, sym, ap, ◌∙◌, subst, arith, refl}
-use Rattle.ncl_base.proofs.Places.{no_entry}
-use Rattle.ncl_netlist.specs.declared.ids.NetId.{NetId}
-use Rattle.ncl_shape.specs.ChainSteps.{net_at}
+use Rattle.ncl_shape.proofs.Terms.{List, NetId, [], ap, arith, length, net_at, no_entry, refl, subst, sym, ◌++◌, ◌+◌, ◌∙◌, ◌∷◌}
 use Rattle.ncl_shape.proofs.BankNets.{follower_within}
 use Rattle.ncl_shape.proofs.Followers.{none_follows, one_follows}
 use Rattle.ncl_shape.proofs.WalkLaws.{IsWalkSoFar, walk_begins, walk_goes_on, walk_ends, walk_is_long}

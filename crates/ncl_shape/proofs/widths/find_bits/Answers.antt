@@ -1,9 +1,4 @@
-use Rattle.std.proofs.Common.{◌+◌, ◌<◌, ◌≤◌, ◌^◌, [], length, map, sym, subst, arith}
-use Rattle.std.specs.List.{AllZip}
-use Rattle.ncl_base.specs.declared.word.TheConstants.{MOST_BITS}
-use Rattle.ncl_shape.specs.FoundChain.{requests_of}
-use Rattle.ncl_shape.specs.FoundParts.{AreFewBitsOf}
-use Rattle.ncl_shape.specs.Shape.{AreBitsOf}
+use Rattle.ncl_shape.proofs.Terms.{AllZip, AreBitsOf, AreFewBitsOf, MOST_BITS, [], arith, length, map, requests_of, subst, sym, ◌+◌, ◌<◌, ◌^◌, ◌≤◌}
 use Rattle.ncl_shape.proofs.ChainNumbers.{as_many_requests}
 use Rattle.ncl_shape.proofs.WalkLaws.{chain_is_short}
 use Rattle.ncl_shape.proofs.WidthLaws.{wide_within, too_wide, too_long}

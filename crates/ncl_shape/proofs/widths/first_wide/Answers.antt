@@ -1,6 +1,4 @@
-use Rattle.std.proofs.Common.{◌≤◌, [], length, get_or, map, ap, ◌∙◌, sym, arith, below_more}
-use Rattle.std.proofs.lemmas.List.{get_or-map}
-use Rattle.ncl_base.specs.declared.word.TheConstants.{MOST_BITS}
+use Rattle.ncl_shape.proofs.Terms.{MOST_BITS, [], ap, arith, below_more, get_or, get_or-map, length, map, sym, ◌∙◌, ◌≤◌}
 use Rattle.ncl_shape.proofs.widths.first_wide.Goals as goal
 
 pub loop-k-preserved : goal.loop-k-preserved

@@ -1,5 +1,4 @@
-use Rattle.std.proofs.Common.{ℕ, ◌<◌, ◌≤◌, [], length, get_or, map}
-use Rattle.ncl_base.specs.declared.word.TheConstants.{MOST_BITS}
+use Rattle.ncl_shape.proofs.Terms.{MOST_BITS, [], get_or, length, map, ℕ, ◌<◌, ◌≤◌}
 use Rattle.ncl_shape.proofs.widths.first_wide.Given as goal
 
 abbrev pub invariant-loop-k : goal.invariant-loop-k

@@ -1,8 +1,4 @@
-use Rattle.std.proofs.Common.{◌≡◌, ℕ, ◌-◌, ◌<◌, ◌++◌, [], ◌∷◌, false, nat_eq, take, length, sym, ap, ◌∙◌, arith}
-use Rattle.std.proofs.lemmas.List.{take_more}
-use Rattle.std.proofs.lemmas.Nat.Bits.{shr_and_one}
-use Rattle.std.proofs.Math.Seq.{take-length}
-use Rattle.ncl_space.specs.Bits.{word_of}
+use Rattle.ncl_space.proofs.Terms.{[], ap, arith, false, length, nat_eq, shr_and_one, sym, take, take-length, take_more, word_of, ℕ, ◌++◌, ◌-◌, ◌<◌, ◌∙◌, ◌∷◌, ◌≡◌}
 use Rattle.ncl_space.proofs.BitLaws.{index-word_of, length-word_of}
 use Rattle.ncl_space.proofs.plain.numbered_word.Goals as goal
 

@@ -1,5 +1,4 @@
-use Rattle.std.proofs.Common.{◌≡◌, take}
-use Rattle.ncl_space.specs.Bits.{word_of}
+use Rattle.ncl_space.proofs.Terms.{take, word_of, ◌≡◌}
 use Rattle.ncl_space.proofs.plain.numbered_word.Given as goal
 
 abbrev pub invariant-loop-place : goal.invariant-loop-place

@@ -1,8 +1,4 @@
-use Rattle.std.proofs.Common.{◌≡◌, ℕ, ◌-◌, ◌*◌, ◌%◌, ◌^◌, ◌<◌, ◌≤◌, sym, ap, ◌∙◌, arith}
-use Rattle.std.proofs.lemmas.Bool.{lt-ltb}
-use Rattle.std.proofs.lemmas.Nat.{one_shl}
-use Rattle.std.proofs.Math.Pow.{pow_mono, pow_pos}
-use Rattle.ncl_gates.specs.Bits.{is_set}
+use Rattle.ncl_space.proofs.Terms.{ap, arith, is_set, lt-ltb, one_shl, pow_mono, pow_pos, sym, ℕ, ◌%◌, ◌*◌, ◌-◌, ◌<◌, ◌^◌, ◌∙◌, ◌≡◌, ◌≤◌}
 use Rattle.ncl_space.proofs.BitLaws.{is_set-ones}
 use Rattle.ncl_space.proofs.values.all_ones.Goals as goal
 

@@ -1,7 +1,4 @@
-use Rattle.std.proofs.Common.{◌-◌, ℕ, nat_eq, sym, ap, ◌∙◌, refl, arith}
-use Rattle.std.proofs.lemmas.Bool.{lt-ltb, ne_eqb}
-use Rattle.std.proofs.lemmas.Nat.Bits.{shr_and_one}
-use Rattle.ncl_space.specs.declared.values.TheConstants.{MASKS}
+use Rattle.ncl_space.proofs.Terms.{MASKS, ap, arith, lt-ltb, nat_eq, ne_eqb, refl, shr_and_one, sym, ℕ, ◌-◌, ◌∙◌}
 use Rattle.ncl_space.proofs.BitLaws.{is_set-mask, is_set-across, is_set-ones, is_set-past}
 use Rattle.ncl_space.proofs.values.bit_values.Goals as goal
 

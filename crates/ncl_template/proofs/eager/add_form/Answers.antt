@@ -1,5 +1,4 @@
-use Rattle.std.proofs.Common.{[], sym, subst}
-use Rattle.ncl_template.specs.Forms.{AddsInner}
+use Rattle.ncl_template.proofs.Terms.{AddsInner, [], subst, sym}
 use Rattle.ncl_template.proofs.eager.add_form.Goals as goal
 
 pub returns-clause-form : goal.returns-clause-form

@@ -1,5 +1,4 @@
-use Rattle.std.proofs.Common.{◌≡◌, map, take}
-use Rattle.ncl_template.specs.Forms.{pin_net}
+use Rattle.ncl_template.proofs.Terms.{map, pin_net, take, ◌≡◌}
 use Rattle.ncl_template.proofs.eager.add_gate.Given as goal
 
 abbrev pub invariant-loop-pin : goal.invariant-loop-pin

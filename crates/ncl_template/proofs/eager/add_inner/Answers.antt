@@ -1,7 +1,4 @@
-use Rattle.std.proofs.Common.{◌≡◌, ◌∷◌, ◌+◌, length, drop, sym, ap, subst, ◌∙◌, arith}
-use Rattle.std.proofs.lemmas.List.{drop_more, drop_all}
-use Rattle.ncl_template.specs.PairGates.{AddsGate}
-use Rattle.ncl_template.specs.Forms.{AreInner, IsGateOf, AddsInner, none, more}
+use Rattle.ncl_template.proofs.Terms.{AddsGate, AddsInner, AreInner, IsGateOf, ap, arith, drop, drop_all, drop_more, length, more, none, subst, sym, ◌+◌, ◌∙◌, ◌∷◌, ◌≡◌}
 use Rattle.ncl_template.proofs.eager.add_inner.Goals as goal
 
 pub loop-gate-preserved : goal.loop-gate-preserved

@@ -1,8 +1,4 @@
-use Rattle.std.proofs.Common.{◌≡◌, ◌+◌, ◌≤◌, List, [], length, drop}
-use Rattle.ncl_netlist.specs.declared.ids.NetId.{NetId}
-use Rattle.ncl_shape.specs.declared.stage.StageCell.{StageCell}
-use Rattle.ncl_tree.specs.Gates.{nets_so_far}
-use Rattle.ncl_template.specs.Forms.{AreInner, AddsInner}
+use Rattle.ncl_template.proofs.Terms.{AddsInner, AreInner, List, NetId, StageCell, [], drop, length, nets_so_far, ◌+◌, ◌≡◌, ◌≤◌}
 use Rattle.ncl_template.proofs.eager.add_inner.Given as goal
 
 -- with those that are left all are added

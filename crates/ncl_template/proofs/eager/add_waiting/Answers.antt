@@ -1,10 +1,4 @@
-use Rattle.std.proofs.Common.{length, sym, subst}
-use Rattle.ncl_decomp.specs.Split.{cost_of_inputs}
-use Rattle.ncl_template.specs.Among.{AddsAmong}
-use Rattle.ncl_template.specs.Forms.{IsForm, Fits}
-use Rattle.ncl_template.specs.Joint.{FitsJointly}
-use Rattle.ncl_template.specs.Template.{node_function}
-use Rattle.ncl_template.specs.Waits.{waits_at, waits_once}
+use Rattle.ncl_template.proofs.Terms.{AddsAmong, Fits, FitsJointly, IsForm, cost_of_inputs, length, node_function, subst, sym, waits_at, waits_once}
 use Rattle.ncl_template.proofs.FormGates.{AddsAmong-form}
 use Rattle.ncl_template.proofs.AmongLaws.{AddsAmong-all}
 use Rattle.ncl_template.proofs.JointLaws.{AddsAmong-joint}

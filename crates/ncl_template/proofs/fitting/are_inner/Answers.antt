@@ -1,6 +1,4 @@
-use Rattle.std.proofs.Common.{◌≡◌, ◌∷◌, ◌+◌, drop, sym, ap, subst, ◌∙◌}
-use Rattle.std.proofs.lemmas.List.{drop_more}
-use Rattle.ncl_template.specs.Forms.{AreInner}
+use Rattle.ncl_template.proofs.Terms.{AreInner, ap, drop, drop_more, subst, sym, ◌+◌, ◌∙◌, ◌∷◌, ◌≡◌}
 use Rattle.ncl_template.proofs.fitting.are_inner.Goals as goal
 
 pub loop-place-preserved : goal.loop-place-preserved

@@ -1,5 +1,4 @@
-use Rattle.std.proofs.Common.{drop}
-use Rattle.ncl_template.specs.Forms.{AreInner}
+use Rattle.ncl_template.proofs.Terms.{AreInner, drop}
 use Rattle.ncl_template.proofs.fitting.are_inner.Given as goal
 
 -- with those that are left all are

@@ -1,9 +1,4 @@
-use Rattle.std.proofs.Common.{take, get_or, sym, subst}
-use Rattle.std.specs.Prelude.{All}
-use Rattle.std.proofs.lemmas.List.{take_more, take_all}
-use Rattle.std.proofs.lemmas.List.Elements.{All-push}
-use Rattle.ncl_template.specs.declared.form.FormPin.TheVariants.{Zero}
-use Rattle.ncl_template.specs.Forms.{IsFormPin}
+use Rattle.ncl_template.proofs.Terms.{All, All-push, IsFormPin, Zero, get_or, subst, sym, take, take_all, take_more}
 use Rattle.ncl_template.proofs.fitting.are_pins.Goals as goal
 
 pub loop-pin-preserved : goal.loop-pin-preserved

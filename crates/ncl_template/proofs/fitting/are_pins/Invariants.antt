@@ -1,6 +1,4 @@
-use Rattle.std.proofs.Common.{take}
-use Rattle.std.specs.Prelude.{All}
-use Rattle.ncl_template.specs.Forms.{IsFormPin}
+use Rattle.ncl_template.proofs.Terms.{All, IsFormPin, take}
 use Rattle.ncl_template.proofs.fitting.are_pins.Given as goal
 
 abbrev pub invariant-loop-pin : goal.invariant-loop-pin

@@ -1,11 +1,4 @@
-use borrow.Author.Count.{below_more}
-use Rattle.std.proofs.Common.{◌≡◌, length, take, sym, ap, subst, arith}
-use Rattle.std.proofs.lemmas.Nat.{one_shl}
-use Rattle.ncl_decomp.specs.Words.{word_of}
-use Rattle.ncl_decomp.proofs.EachWord.{at_each_first}
-use Rattle.ncl_template.specs.Template.{node_function}
-use Rattle.ncl_template.specs.Waits.{waits_at}
-use Rattle.ncl_template.specs.Forms.{IsForm, FitsWord, Fits}
+use Rattle.ncl_template.proofs.Terms.{Fits, FitsWord, IsForm, ap, arith, at_each_first, below_more, length, node_function, one_shl, subst, sym, take, waits_at, word_of, ◌≡◌}
 use Rattle.ncl_template.proofs.fitting.fits.Goals as goal
 
 pub loop-number-preserved : goal.loop-number-preserved

@@ -1,8 +1,4 @@
-use Rattle.std.proofs.Common.{ℕ, ◌<◌, length, take}
-use Rattle.ncl_decomp.specs.Words.{word_of}
-use Rattle.ncl_template.specs.Template.{node_function}
-use Rattle.ncl_template.specs.Waits.{waits_at}
-use Rattle.ncl_template.specs.Forms.{FitsWord}
+use Rattle.ncl_template.proofs.Terms.{FitsWord, length, node_function, take, waits_at, word_of, ℕ, ◌<◌}
 use Rattle.ncl_template.proofs.fitting.fits.Given as goal
 
 abbrev pub invariant-loop-number : goal.invariant-loop-number

@@ -1,6 +1,4 @@
-use Rattle.std.proofs.Common.{◌≡◌, [], ◌∷◌, ◌++◌, ◌+◌, length, drop, not, ◌&&◌, nat_eq, sym, ap, subst, ◌∙◌, arith}
-use Rattle.std.proofs.lemmas.List.{drop_more}
-use Rattle.ncl_template.specs.Forms.{gate_bit, inner_bits, AreInner}
+use Rattle.ncl_template.proofs.Terms.{AreInner, [], ap, arith, drop, drop_more, gate_bit, inner_bits, length, nat_eq, not, subst, sym, ◌&&◌, ◌++◌, ◌+◌, ◌∙◌, ◌∷◌, ◌≡◌}
 use Rattle.ncl_template.proofs.form.inner_bits.Goals as goal
 
 pub loop-gate-preserved : goal.loop-gate-preserved

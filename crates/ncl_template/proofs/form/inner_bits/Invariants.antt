@@ -1,5 +1,4 @@
-use Rattle.std.proofs.Common.{◌≡◌, [], length, drop}
-use Rattle.ncl_template.specs.Forms.{inner_bits, AreInner}
+use Rattle.ncl_template.proofs.Terms.{AreInner, [], drop, inner_bits, length, ◌≡◌}
 use Rattle.ncl_template.proofs.form.inner_bits.Given as goal
 
 -- what is left gives the bits

@@ -1,5 +1,4 @@
-use Rattle.std.proofs.Common.{◌≡◌, map, take}
-use Rattle.ncl_template.specs.Forms.{pin_bit}
+use Rattle.ncl_template.proofs.Terms.{map, pin_bit, take, ◌≡◌}
 use Rattle.ncl_template.proofs.form.is_set.Given as goal
 
 abbrev pub invariant-loop-pin : goal.invariant-loop-pin

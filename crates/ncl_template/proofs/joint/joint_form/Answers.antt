@@ -1,11 +1,4 @@
-use Rattle.std.proofs.Common.{◌≡◌, ℕ, List, take, length, sym, subst, ◌∙◌, arith}
-use Rattle.std.proofs.lemmas.Bool.{eqb-true}
-use Rattle.std.proofs.lemmas.List.{length-take-le}
-use Rattle.ncl_shape.specs.declared.rails.Rails.{Rails}
-use Rattle.ncl_template.specs.declared.form.FormGate.{FormGate}
-use Rattle.ncl_template.specs.Forms.{IsFormGate, IsBehind, Fits}
-use Rattle.ncl_template.specs.Template.{node_function}
-use Rattle.ncl_template.specs.Waits.{waits_at, no_inputs}
+use Rattle.ncl_template.proofs.Terms.{Fits, FormGate, IsBehind, IsFormGate, List, Rails, arith, eqb-true, length, length-take-le, no_inputs, node_function, subst, sym, take, waits_at, ℕ, ◌∙◌, ◌≡◌}
 use Rattle.ncl_template.proofs.joint.joint_form.Goals as goal
 
 -- the first three of four

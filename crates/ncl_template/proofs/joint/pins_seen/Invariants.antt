@@ -1,6 +1,4 @@
-use Rattle.std.proofs.Common.{◌≡◌, [], length, map, take}
-use Rattle.std.specs.Prelude.{All}
-use Rattle.ncl_template.specs.Forms.{IsFormPin, pin_net}
+use Rattle.ncl_template.proofs.Terms.{All, IsFormPin, [], length, map, pin_net, take, ◌≡◌}
 use Rattle.ncl_template.proofs.joint.pins_seen.Given as goal
 
 -- the pins of the nets so far

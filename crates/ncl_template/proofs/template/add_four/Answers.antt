@@ -1,5 +1,4 @@
-use Rattle.std.proofs.Common.{[], ◌∷◌}
-use Rattle.ncl_template.specs.Tables.{table_value}
+use Rattle.ncl_template.proofs.Terms.{[], table_value, ◌∷◌}
 use Rattle.ncl_template.proofs.Whole.{AddsTemplate-tables_differ}
 use Rattle.ncl_template.proofs.template.add_four.Goals as goal
 

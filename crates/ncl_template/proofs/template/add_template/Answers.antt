@@ -1,7 +1,4 @@
-use Rattle.std.proofs.Common.{◌≡◌, length, sym, ap, ◌∙◌, subst, arith}
-use Rattle.ncl_decomp.specs.Split.{cost_of_inputs}
-use Rattle.ncl_template.specs.Formed.{AddsTemplate}
-use Rattle.ncl_template.specs.Template.{node_function}
+use Rattle.ncl_template.proofs.Terms.{AddsTemplate, ap, arith, cost_of_inputs, length, node_function, subst, sym, ◌∙◌, ◌≡◌}
 use Rattle.ncl_template.proofs.Whole.{AddsTemplate-of_two, AddsTemplate-of_three, AddsTemplate-of_four}
 use Rattle.ncl_template.proofs.template.add_template.Goals as goal
 

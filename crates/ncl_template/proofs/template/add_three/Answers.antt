@@ -1,5 +1,4 @@
-use Rattle.std.proofs.Common.{[], ◌∷◌}
-use Rattle.ncl_template.specs.Tables.{row_value}
+use Rattle.ncl_template.proofs.Terms.{[], row_value, ◌∷◌}
 use Rattle.ncl_template.proofs.Whole.{AddsTemplate-rows_differ}
 use Rattle.ncl_template.proofs.template.add_three.Goals as goal
 

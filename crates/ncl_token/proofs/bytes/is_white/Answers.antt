@@ -1,6 +1,4 @@
-use Rattle.std.proofs.Common.{false, arith}
-use Rattle.std.proofs.lemmas.List.FromFn.{get_or-map-range_with_len}
-use Rattle.ncl_token.specs.Bytes.{is_white as white_test}
+use Rattle.ncl_token.proofs.Terms.{arith, false, get_or-map-range_with_len, white_test}
 use Rattle.ncl_token.proofs.bytes.is_white.Goals as goal
 
 pub returns : goal.returns

@@ -1,5 +1,4 @@
-use Rattle.std.proofs.Common.{sym, subst}
-use Rattle.ncl_top.specs.Compiling.{IsModelsReply, too_large, compiled}
+use Rattle.ncl_top.proofs.Terms.{IsModelsReply, compiled, subst, sym, too_large}
 use Rattle.ncl_top.proofs.compiling.compile_models.Goals as goal
 
 pub returns-in_ok-compiled_text-in-Ok : goal.returns-in_ok-compiled_text-in-Ok

@@ -1,5 +1,4 @@
-use Rattle.std.proofs.Common.{true, refl, sym, subst}
-use Rattle.ncl_top.specs.Compiling.{IsCompiledText, merged}
+use Rattle.ncl_top.proofs.Terms.{IsCompiledText, merged, refl, subst, sym, true}
 use Rattle.ncl_top.proofs.PlainNames.{writable}
 use Rattle.ncl_top.proofs.MergedModels.{compiled_merged}
 use Rattle.ncl_top.proofs.compiling.merged_text.Goals as goal

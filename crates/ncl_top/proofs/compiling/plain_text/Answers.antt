@@ -1,5 +1,4 @@
-use Rattle.std.proofs.Common.{false, refl, sym, subst}
-use Rattle.ncl_top.specs.Compiling.{IsCompiledText, plain}
+use Rattle.ncl_top.proofs.Terms.{IsCompiledText, false, plain, refl, subst, sym}
 use Rattle.ncl_top.proofs.PlainNames.{writable}
 use Rattle.ncl_top.proofs.compiling.plain_text.Goals as goal
 

@@ -1,5 +1,4 @@
-use Rattle.std.proofs.Common.{inl, inr, ◌∙◌}
-use Rattle.ncl_command.specs.declared.command.TheConstants.{MOST_NODES}
+use Rattle.ncl_top.proofs.Terms.{MOST_NODES, inl, inr, ◌∙◌}
 use Rattle.ncl_top.proofs.Demonstrated.{demo_verdict}
 use Rattle.ncl_top.proofs.demonstrating.judged.Goals as goal
 

@@ -1,11 +1,4 @@
-use Rattle.std.proofs.Common.{◌*◌, length, sym, ◌∙◌, ap, subst}
-use Rattle.ncl_machine.specs.Run.{AreWordsOf}
-use Rattle.ncl_sim.specs.TimedRun.{IsTimedRun, DeliversAll}
-use Rattle.ncl_verdict.proofs.Sound.{judgement-sound}
-use Rattle.ncl_command.specs.declared.command.TheConstants.{MOST_NODES as LIMIT}
-use Rattle.ncl_report.specs.DemoText.{demo_lines}
-use Rattle.ncl_top.specs.Demonstrating.{IsDemoReply, shown}
-use Rattle.ncl_report.proofs.NamedItems.{names_item}
+use Rattle.ncl_top.proofs.Terms.{AreWordsOf, DeliversAll, IsDemoReply, IsTimedRun, LIMIT, ap, demo_lines, judgement-sound, length, names_item, shown, subst, sym, ◌*◌, ◌∙◌}
 use Rattle.ncl_top.proofs.Demonstrated.{all_of_width, demo_width, demo_run}
 use Rattle.ncl_top.proofs.demonstrating.shown.Goals as goal
 

@@ -1,9 +1,6 @@
-use Rattle.std.proofs.Common.{◌++◌, length, sym, ◌∙◌, ap, subst}
-use Rattle.ncl_writer.specs.Names.{IsWritable}
+use Rattle.ncl_top.proofs.Terms.{IsDemoReply, IsWritable, MOST_NODES, ap, length, subst, sym, verdict_line, ◌++◌, ◌∙◌}
 use Rattle.ncl_writer.specs.Text.{text_of}
-use Rattle.ncl_lines.specs.VerdictText.{verdict_line}
-use Rattle.ncl_command.specs.declared.command.TheConstants.{MOST_NODES}
-use Rattle.ncl_top.specs.Demonstrating.{IsDemoReply, too_large}
+use Rattle.ncl_top.specs.Demonstrating.{too_large}
 use Rattle.ncl_top.proofs.PlainNames.{writable}
 use Rattle.ncl_top.proofs.demonstrating.too_large.Goals as goal
 

@@ -1,8 +1,5 @@
-use Rattle.std.proofs.Common.{refl, subst}
-use Rattle.ncl_check.specs.Reply.{IsCheckReply, refused}
+use Rattle.ncl_top.proofs.Terms.{IsCheckReply, IsFileReply, Replies-long, refl, refused, subst}
 use Rattle.ncl_check.specs.Text.{too_long}
-use Rattle.ncl_top.specs.Answer.{IsFileReply}
-use Rattle.ncl_reply.proofs.Refusals.{Replies-long}
 use Rattle.ncl_top.proofs.files.check_file.Goals as goal
 
 pub returns-in_err-bytes-clause-replies : goal.returns-in_err-bytes-clause-replies

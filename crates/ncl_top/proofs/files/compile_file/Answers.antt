@@ -1,7 +1,4 @@
-use Rattle.std.proofs.Common.{subst}
-use Rattle.ncl_top.specs.Answer.{IsCompiledFile}
-use Rattle.ncl_top.specs.Compiling.{AreModelsText, AreRefusedModels, IsModelsReply, no_models, modelled, too_long}
-use Rattle.ncl_reply.proofs.Refusals.{Replies-long, Replies-told}
+use Rattle.ncl_top.proofs.Terms.{AreModelsText, AreRefusedModels, IsCompiledFile, IsModelsReply, Replies-long, Replies-told, modelled, no_models, subst, too_long}
 use Rattle.ncl_top.proofs.SimReplies.{gives_from}
 use Rattle.ncl_top.proofs.files.compile_file.Goals as goal
 

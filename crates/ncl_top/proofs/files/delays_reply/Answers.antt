@@ -1,6 +1,4 @@
-use Rattle.std.proofs.Common.{subst}
-use Rattle.ncl_top.specs.Simulating.{AreDelaysText, AreRefusedDelays, IsDelaysReply, IsWordsReply, delayed, long_delays, no_delays}
-use Rattle.ncl_reply.proofs.Refusals.{Replies-long, Replies-told}
+use Rattle.ncl_top.proofs.Terms.{AreDelaysText, AreRefusedDelays, IsDelaysReply, IsWordsReply, Replies-long, Replies-told, delayed, long_delays, no_delays, subst}
 use Rattle.ncl_top.proofs.SimReplies.{Replies-weaker}
 use Rattle.ncl_top.proofs.files.delays_reply.Goals as goal
 

@@ -1,9 +1,5 @@
-use Rattle.std.proofs.Common.{subst}
-use Rattle.ncl_check.specs.Text.{IsShapeless, shapeless}
-use Rattle.ncl_check.proofs.Replying.{pipeline_text}
-use Rattle.ncl_reply.specs.Given.{IsRefusedFile}
-use Rattle.ncl_top.specs.Matching.{IsMatchReply, IsModelsMatched, no_pipeline, piped}
-use Rattle.ncl_reply.proofs.Refusals.{Replies-refused, Replies-told}
+use Rattle.ncl_top.proofs.Terms.{IsMatchReply, IsModelsMatched, IsRefusedFile, IsShapeless, Replies-refused, Replies-told, no_pipeline, pipeline_text, shapeless, subst}
+use Rattle.ncl_top.specs.Matching.{piped}
 use Rattle.ncl_top.proofs.SimReplies.{Replies-weaker}
 use Rattle.ncl_top.proofs.files.match_files.Goals as goal
 

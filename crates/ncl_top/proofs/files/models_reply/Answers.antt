@@ -1,8 +1,5 @@
-use Rattle.std.proofs.Common.{subst}
-use Rattle.ncl_match.specs.Circuit.{circuit_of}
-use Rattle.ncl_top.specs.Compiling.{AreModelsText, AreRefusedModels, too_long}
-use Rattle.ncl_top.specs.Matching.{IsMatched, IsModelsMatched, no_models, compared}
-use Rattle.ncl_reply.proofs.Refusals.{Replies-long, Replies-told}
+use Rattle.ncl_top.proofs.Terms.{AreModelsText, AreRefusedModels, IsMatched, IsModelsMatched, Replies-long, Replies-told, circuit_of, compared, subst, too_long}
+use Rattle.ncl_top.specs.Matching.{no_models}
 use Rattle.ncl_top.proofs.SimReplies.{gives_from}
 use Rattle.ncl_top.proofs.files.models_reply.Goals as goal
 

@@ -1,6 +1,5 @@
+use Rattle.ncl_top.proofs.Terms.{IfErr-long, IsRefusedFile}
 use Rattle.ncl_check.specs.Text.{too_long}
-use Rattle.ncl_reply.specs.Given.{IsRefusedFile}
-use Rattle.ncl_reply.proofs.Refusals.{IfErr-long}
 use Rattle.ncl_top.proofs.files.netlist_of.Goals as goal
 
 pub returns-in_err-bytes-clause-refused : goal.returns-in_err-bytes-clause-refused

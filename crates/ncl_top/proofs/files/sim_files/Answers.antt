@@ -1,11 +1,5 @@
-use Rattle.std.proofs.Common.{sym, subst}
-use Rattle.ncl_reader.specs.GraphicNames.{HasGraphicNames}
-use Rattle.ncl_reader.proofs.GraphicNames.{graphic_names}
-use Rattle.ncl_check.specs.Text.{IsShapeless, shapeless}
-use Rattle.ncl_check.proofs.Replying.{pipeline_text}
-use Rattle.ncl_reply.specs.Given.{IsRefusedFile}
-use Rattle.ncl_top.specs.Simulating.{IsDelaysReply, IsSimReply, no_pipeline, piped}
-use Rattle.ncl_reply.proofs.Refusals.{Replies-refused, Replies-told}
+use Rattle.ncl_top.proofs.Terms.{HasGraphicNames, IsDelaysReply, IsRefusedFile, IsShapeless, IsSimReply, Replies-refused, Replies-told, graphic_names, piped, pipeline_text, shapeless, subst, sym}
+use Rattle.ncl_top.specs.Simulating.{no_pipeline}
 use Rattle.ncl_top.proofs.SimReplies.{Replies-weaker}
 use Rattle.ncl_top.proofs.files.sim_files.Goals as goal
 

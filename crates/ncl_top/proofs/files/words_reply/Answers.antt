@@ -1,8 +1,4 @@
-use Rattle.std.proofs.Common.{◌≤◌, length, sym, subst}
-use Rattle.ncl_machine.specs.Run.{AreWordsOf}
-use Rattle.ncl_delay.specs.declared.word_text.TheConstants.{MOST_WORDS}
-use Rattle.ncl_top.specs.Simulating.{AreRefusedWords, AreWordsText, IsRunReply, IsWordsReply, long_words, no_words, ran}
-use Rattle.ncl_reply.proofs.Refusals.{Replies-long, Replies-told}
+use Rattle.ncl_top.proofs.Terms.{AreRefusedWords, AreWordsOf, AreWordsText, IsRunReply, IsWordsReply, MOST_WORDS, Replies-long, Replies-told, length, long_words, no_words, ran, subst, sym, ◌≤◌}
 use Rattle.ncl_top.proofs.SimReplies.{gives_from}
 use Rattle.ncl_top.proofs.WordsRead.{words_fit}
 use Rattle.ncl_top.proofs.files.words_reply.Goals as goal

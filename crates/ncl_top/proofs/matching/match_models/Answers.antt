@@ -1,7 +1,4 @@
-use Rattle.std.proofs.Common.{Ok, Err, sym, subst}
-use Rattle.ncl_match.specs.Circuit.{circuit_of}
-use Rattle.ncl_match.specs.Answer.{IsAnswer}
-use Rattle.ncl_top.specs.Matching.{IsMatched, widths, full, differs, same}
+use Rattle.ncl_top.proofs.Terms.{Err, IsAnswer, IsMatched, Ok, circuit_of, differs, full, same, subst, sym, widths}
 use Rattle.ncl_top.proofs.matching.match_models.Goals as goal
 
 pub returns-in-Ok-Same : goal.returns-in-Ok-Same

@@ -1,5 +1,4 @@
-use Rattle.ncl_check.proofs.Refusing.{TellsLine-weaker}
-use Rattle.ncl_top.specs.Simulating.{AreRefusedDelays}
+use Rattle.ncl_top.proofs.Terms.{AreRefusedDelays, TellsLine-weaker}
 use Rattle.ncl_top.proofs.SimReplies.{delays_refused}
 use Rattle.ncl_top.proofs.reading.delays_in.Goals as goal
 

@@ -1,8 +1,4 @@
-use Rattle.std.proofs.Common.{◌≡◌, ◌≢◌, sym, subst}
-use Rattle.ncl_blif.specs.declared.fault.BlifFault.TheVariants.{Memory}
-use Rattle.ncl_report.specs.BlifText.{blif_line}
-use Rattle.ncl_check.proofs.Refusing.{TellsLine-weaker}
-use Rattle.ncl_top.specs.Compiling.{AreRefusedModels, unread}
+use Rattle.ncl_top.proofs.Terms.{AreRefusedModels, Memory, TellsLine-weaker, blif_line, subst, sym, unread, ◌≡◌, ◌≢◌}
 use Rattle.ncl_top.proofs.ModelsText.{refused}
 use Rattle.ncl_top.proofs.reading.models_in.Goals as goal
 

@@ -1,7 +1,4 @@
-use Rattle.std.proofs.Common.{◌≤◌, length, sym, ap, subst}
-use Rattle.ncl_base.specs.declared.word.TheConstants.{MOST_BITS}
-use Rattle.ncl_check.proofs.Refusing.{TellsLine-weaker}
-use Rattle.ncl_top.specs.Simulating.{AreRefusedWords}
+use Rattle.ncl_top.proofs.Terms.{AreRefusedWords, MOST_BITS, TellsLine-weaker, ap, length, subst, sym, ◌≤◌}
 use Rattle.ncl_top.proofs.SimReplies.{inputs_some, words_refused}
 use Rattle.ncl_top.proofs.reading.words_in.Goals as goal
 

@@ -1,6 +1,4 @@
-use Rattle.std.proofs.Common.{arith}
-use Rattle.ncl_sim.proofs.WordsDue.{few_due}
-use Rattle.ncl_report.proofs.NamedItems.{names_item}
+use Rattle.ncl_top.proofs.Terms.{arith, few_due, names_item}
 use Rattle.ncl_top.proofs.simulating.run_reply.Goals as goal
 
 pub trace_text-requires : goal.trace_text-requires

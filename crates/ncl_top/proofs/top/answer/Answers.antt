@@ -1,7 +1,4 @@
-use Rattle.std.proofs.Common.{Err, ap, rules, subst}
-use Rattle.ncl_command.specs.Meaning.{command_meant}
-use Rattle.ncl_top.specs.Answer.{IsReply, answered, replied, not_understood, read_failed, no_memory}
-use Rattle.ncl_reply.specs.Replies.{Refuses}
+use Rattle.ncl_top.proofs.Terms.{Err, IsReply, Refuses, answered, ap, command_meant, no_memory, not_understood, read_failed, replied, rules, subst}
 use Rattle.ncl_top.proofs.Saying.{says_reply}
 use Rattle.ncl_top.proofs.top.answer.Goals as goal
 

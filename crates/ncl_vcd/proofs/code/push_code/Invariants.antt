@@ -1,5 +1,4 @@
-use Rattle.std.proofs.Common.{◌≡◌, ◌++◌}
-use Rattle.ncl_vcd.specs.Codes.{identifier_code, characters_left}
+use Rattle.ncl_vcd.proofs.Terms.{characters_left, identifier_code, ◌++◌, ◌≡◌}
 use Rattle.ncl_vcd.proofs.code.push_code.Given as goal
 
 -- with what is left of the number the code is whole

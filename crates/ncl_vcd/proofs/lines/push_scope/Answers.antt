@@ -1,5 +1,4 @@
-use Rattle.std.proofs.Common.{◌++◌, ap, ◌∙◌, append_assoc}
-use Rattle.std.specs.Prelude.{codes}
+use Rattle.ncl_vcd.proofs.Terms.{ap, append_assoc, codes, ◌++◌, ◌∙◌}
 use Rattle.ncl_vcd.proofs.lines.push_scope.Goals as goal
 
 pub returns : goal.returns

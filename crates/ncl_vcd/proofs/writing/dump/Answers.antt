@@ -1,16 +1,5 @@
-use Rattle.std.proofs.Common.{◌≡◌, ◌<◌, false, List, ◌++◌, length, Some, sym, ap, ◌∙◌, subst}
-use Rattle.std.specs.Prelude.{codes}
-use Rattle.std.specs.List.{flat_map}
-use Rattle.ncl_netlist.specs.Netlist.{NetlistData}
-use Rattle.ncl_machine.specs.Run.{IsRunFrom}
-use Rattle.ncl_machine.specs.State.{State, reset}
-use Rattle.ncl_delay.specs.declared.fired.Fired.{Fired}
-use Rattle.ncl_sim.specs.TimedRun.{items_in}
-use Rattle.ncl_vcd.specs.Codes.{identifier_code}
-use Rattle.ncl_vcd.specs.Dump.{change_lines, line, variable_lines, time_line, value_lines}
-use Rattle.ncl_vcd.specs.Level.{level}
+use Rattle.ncl_vcd.proofs.Terms.{Fired, IsRunFrom, List, NetlistData, Some, State, ap, change_lines, changes_of, codes, false, flat_map, identifier_code, items_in, length, level, line, reset, subst, sym, time_line, value_lines, values_in, variable_lines, ◌++◌, ◌<◌, ◌∙◌, ◌≡◌}
 use Rattle.ncl_vcd.proofs.Changes.{value_at}
-use Rattle.ncl_vcd.specs.RunDump.{changes_of, values_in}
 use Rattle.ncl_vcd.proofs.LevelLaws.{level-is}
 use Rattle.ncl_vcd.proofs.RunLaws.{changes-rise, never_fall, value-first, values-after, values-length}
 use Rattle.ncl_vcd.proofs.Ranges.{run-range}

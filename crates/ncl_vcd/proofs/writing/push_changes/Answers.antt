@@ -1,14 +1,4 @@
-use Rattle.std.proofs.Common.{◌≡◌, ◌+◌, List, ◌∷◌, take, drop, get_or, Some, sym, ap, ◌∙◌, subst}
-use Rattle.std.specs.Prelude.{IfSome}
-use Rattle.std.proofs.lemmas.List.{drop_more, take_more}
-use Rattle.ncl_shape.specs.declared.item.Item.TheVariants.{Cell as Fire}
-use Rattle.ncl_machine.specs.Held.{meaning}
-use Rattle.ncl_machine.specs.Run.{IsRunFrom}
-use Rattle.ncl_machine.specs.State.{State}
-use Rattle.ncl_machine.specs.Steps.{step}
-use Rattle.ncl_delay.specs.declared.fired.Fired.{Fired}
-use Rattle.ncl_sim.specs.TimedRun.{items_in}
-use Rattle.ncl_sim.proofs.Locality.{enabled-net}
+use Rattle.ncl_vcd.proofs.Terms.{Fire, Fired, IfSome, IsRunFrom, List, Some, State, ap, drop, drop_more, enabled-net, get_or, items_in, meaning, step, subst, sym, take, take_more, ◌+◌, ◌∙◌, ◌∷◌, ◌≡◌}
 use Rattle.ncl_vcd.proofs.RunLaws.{AreSmall}
 use Rattle.ncl_vcd.proofs.WritingLaws.{changes-step, small-push}
 use Rattle.ncl_vcd.proofs.writing.push_changes.Goals as goal

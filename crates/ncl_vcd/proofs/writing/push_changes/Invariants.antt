@@ -1,10 +1,4 @@
-use Rattle.std.proofs.Common.{◌≡◌, ◌++◌, drop, take}
-use Rattle.std.specs.List.{flat_map}
-use Rattle.ncl_machine.specs.Held.{IsFor, meaning}
-use Rattle.ncl_machine.specs.Run.{IsRunFrom}
-use Rattle.ncl_sim.specs.TimedRun.{items_in}
-use Rattle.ncl_vcd.specs.Dump.{change_lines, line}
-use Rattle.ncl_vcd.specs.RunDump.{changes_of}
+use Rattle.ncl_vcd.proofs.Terms.{IsFor, IsRunFrom, change_lines, changes_of, drop, flat_map, items_in, line, meaning, take, ◌++◌, ◌≡◌}
 use Rattle.ncl_vcd.proofs.RunLaws.{AreSmall}
 use Rattle.ncl_vcd.proofs.writing.push_changes.Given as goal
 

@@ -1,6 +1,4 @@
-use Rattle.std.proofs.Common.{◌++◌, ◌∙◌}
-use Rattle.ncl_machine.specs.Held.{meaning}
-use Rattle.ncl_vcd.specs.Dump.{line, value_line}
+use Rattle.ncl_vcd.proofs.Terms.{line, meaning, value_line, ◌++◌, ◌∙◌}
 use Rattle.ncl_vcd.proofs.WritingLaws.{values-step}
 use Rattle.ncl_vcd.proofs.writing.push_values.Goals as goal
 

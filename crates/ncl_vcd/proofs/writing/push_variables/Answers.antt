@@ -1,5 +1,4 @@
-use Rattle.std.proofs.Common.{◌++◌, ◌∙◌}
-use Rattle.ncl_vcd.specs.Dump.{line, variable_line}
+use Rattle.ncl_vcd.proofs.Terms.{line, variable_line, ◌++◌, ◌∙◌}
 use Rattle.ncl_vcd.proofs.WritingLaws.{nets-step}
 use Rattle.ncl_vcd.proofs.writing.push_variables.Goals as goal
 

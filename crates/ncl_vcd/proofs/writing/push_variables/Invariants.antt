@@ -1,6 +1,4 @@
-use Rattle.std.proofs.Common.{◌≡◌, ◌++◌, take}
-use Rattle.std.specs.List.{flat_map}
-use Rattle.ncl_vcd.specs.Dump.{line, variable_lines}
+use Rattle.ncl_vcd.proofs.Terms.{flat_map, line, take, variable_lines, ◌++◌, ◌≡◌}
 use Rattle.ncl_vcd.proofs.writing.push_variables.Given as goal
 
 -- the nets so far

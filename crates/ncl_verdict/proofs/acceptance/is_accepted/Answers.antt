@@ -1,9 +1,4 @@
-use Rattle.std.proofs.Common.{◌≡◌, true, None, IfOk, sym, ◌∙◌, subst}
-use Rattle.ncl_shape.specs.Stage.{StageData}
-use Rattle.ncl_stage.proofs.ObservedLaws.{sound_from_observed}
-use Rattle.ncl_verdict.specs.InSpace.{ReadyData}
-use Rattle.ncl_verdict.specs.Judgement.{of_stage, stopped_at}
-use Rattle.ncl_verdict.specs.Within.{IsWithin}
+use Rattle.ncl_verdict.proofs.Terms.{IfOk, IsWithin, None, ReadyData, StageData, of_stage, sound_from_observed, stopped_at, subst, sym, true, ◌∙◌, ◌≡◌}
 use Rattle.ncl_verdict.proofs.Accepting.{sound-none}
 use Rattle.ncl_verdict.proofs.InSpaceLaws.{ready-restored}
 use Rattle.ncl_verdict.proofs.Sound.{base-valid}

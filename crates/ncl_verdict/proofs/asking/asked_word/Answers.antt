@@ -1,6 +1,4 @@
-use Rattle.std.proofs.Common.{◌∙◌, subst, sym}
-use Rattle.std.proofs.lemmas.Result.{on_ok_weaker}
-use Rattle.ncl_space.specs.Space.{Releases}
+use Rattle.ncl_verdict.proofs.Terms.{Releases, on_ok_weaker, subst, sym, ◌∙◌}
 use Rattle.ncl_verdict.proofs.AskingLaws.{asked-back, asked-kept, fits-asked, ready-back, within-back}
 use Rattle.ncl_verdict.proofs.asking.asked_word.Goals as goal
 

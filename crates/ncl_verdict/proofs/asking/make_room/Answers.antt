@@ -1,5 +1,4 @@
-use Rattle.std.proofs.Common.{subst, sym}
-use Rattle.ncl_space.specs.Space.{Releases}
+use Rattle.ncl_verdict.proofs.Terms.{Releases, subst, sym}
 use Rattle.ncl_verdict.proofs.AskingLaws.{asked-back}
 use Rattle.ncl_verdict.proofs.asking.make_room.Goals as goal
 

@@ -1,8 +1,5 @@
-use Rattle.std.proofs.Common.{◌≡◌, Bool, List, Option, [], ◌∷◌, subst}
+use Rattle.ncl_verdict.proofs.Terms.{Bool, IsAfterBase, List, Option, Variant, [], faults_of, least_word_by, subst, ◌∷◌, ◌≡◌}
 use Rattle.std.specs.Prelude.{IfOk}
-use Rattle.ncl_faults.specs.declared.variant.Variant.{Variant}
-use Rattle.ncl_stage.specs.LeastWords.{faults_of, least_word_by}
-use Rattle.ncl_verdict.specs.InSpace.{IsAfterBase}
 use Rattle.ncl_verdict.proofs.AskingLaws.{one-fault}
 use Rattle.ncl_verdict.proofs.asking.word_over.Goals as goal
 

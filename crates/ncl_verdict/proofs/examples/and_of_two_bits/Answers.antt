@@ -1,7 +1,4 @@
-use Rattle.std.proofs.Common.{[], ◌∷◌}
-use Rattle.ncl_faults.specs.declared.variant.Variant.TheVariants.{Base}
-use Rattle.ncl_faults.specs.Examples.{and_stage}
-use Rattle.ncl_stage.proofs.Counted.{count-computes}
+use Rattle.ncl_verdict.proofs.Terms.{Base, [], and_stage, count-computes, ◌∷◌}
 use Rattle.ncl_verdict.proofs.Computed.{judgement-computes}
 use Rattle.ncl_verdict.proofs.examples.and_of_two_bits.Goals as goal
 

@@ -1,5 +1,4 @@
-use Rattle.std.proofs.Common.{[], ◌∷◌}
-use Rattle.ncl_faults.specs.Examples.{eager_and_stage}
+use Rattle.ncl_verdict.proofs.Terms.{[], eager_and_stage, ◌∷◌}
 use Rattle.ncl_verdict.proofs.Computed.{judgement-computes}
 use Rattle.ncl_verdict.proofs.examples.eager_and.Goals as goal
 

@@ -1,5 +1,4 @@
-use Rattle.std.proofs.Common.{[], ◌∷◌}
-use Rattle.ncl_faults.specs.Examples.{adder_stage, sum_stage}
+use Rattle.ncl_verdict.proofs.Terms.{[], adder_stage, sum_stage, ◌∷◌}
 use Rattle.ncl_verdict.proofs.Computed.{judgement-computes}
 use Rattle.ncl_verdict.proofs.examples.full_adder.Goals as goal
 

@@ -1,5 +1,4 @@
-use Rattle.std.proofs.Common.{[], ◌∷◌}
-use Rattle.ncl_faults.specs.Examples.{crossed_stage, dead_rail_stage}
+use Rattle.ncl_verdict.proofs.Terms.{[], crossed_stage, dead_rail_stage, ◌∷◌}
 use Rattle.ncl_verdict.proofs.Computed.{judgement-computes}
 use Rattle.ncl_verdict.proofs.examples.rails_of_no_bit.Goals as goal
 

@@ -1,5 +1,4 @@
-use Rattle.std.proofs.Common.{[], ◌∷◌}
-use Rattle.ncl_faults.specs.Examples.{orphan_and_stage}
+use Rattle.ncl_verdict.proofs.Terms.{[], orphan_and_stage, ◌∷◌}
 use Rattle.ncl_verdict.proofs.Computed.{judgement-computes}
 use Rattle.ncl_verdict.proofs.examples.unobserved_cell.Goals as goal
 

@@ -1,5 +1,4 @@
-use Rattle.std.proofs.Common.{[], ◌∷◌}
-use Rattle.ncl_faults.specs.Examples.{swapped_stage, straight_stage}
+use Rattle.ncl_verdict.proofs.Terms.{[], straight_stage, swapped_stage, ◌∷◌}
 use Rattle.ncl_verdict.proofs.Computed.{judgement-computes}
 use Rattle.ncl_verdict.proofs.examples.words_in_two_orders.Goals as goal
 

@@ -1,14 +1,5 @@
-use Rattle.std.proofs.Common.{◌≡◌, ℕ, ◌<◌, ◌≤◌, List, length, sym, ◌∙◌, ap, subst, arith}
-use Rattle.std.specs.Prelude.{All, sum_by}
+use Rattle.ncl_verdict.proofs.Terms.{All, AreReaches, Covers, IsWithin, List, ReadyData, StageData, WiringData, ap, arith, length, lost_mask, nets-length, nets_of, outputs-within, stopped_at, subst, sum_by, sym, weight_lost, weight_of, ℕ, ◌<◌, ◌∙◌, ◌≡◌, ◌≤◌}
 use Rattle.std.specs.FinSet as set
-use Rattle.ncl_shape.specs.Stage.{StageData, nets_of}
-use Rattle.ncl_stage.specs.Wiring.{WiringData}
-use Rattle.ncl_stage.proofs.ChangedLaws.{nets-length}
-use Rattle.ncl_stage.proofs.OutputLaws.{outputs-within}
-use Rattle.ncl_verdict.specs.InSpace.{ReadyData}
-use Rattle.ncl_verdict.specs.Judgement.{stopped_at}
-use Rattle.ncl_verdict.specs.Masks.{AreReaches, Covers, lost_mask, weight_lost, weight_of}
-use Rattle.ncl_verdict.specs.Within.{IsWithin}
 use Rattle.ncl_verdict.proofs.FewLaws.{count-few}
 use Rattle.ncl_verdict.proofs.Sound.{base-valid}
 use Rattle.ncl_verdict.proofs.few.are_few.Goals as goal

@@ -1,6 +1,4 @@
-use Rattle.std.proofs.Common.{◌≡◌, ℕ, ◌<◌, ◌≤◌, ◌^◌, true, arith}
-use Rattle.std.specs.Prelude.{nat_le}
-use Rattle.std.proofs.lemmas.Bool.Decides.{nat_tests}
+use Rattle.ncl_verdict.proofs.Terms.{arith, nat_le, nat_tests, true, ℕ, ◌<◌, ◌^◌, ◌≡◌, ◌≤◌}
 use Rattle.ncl_verdict.proofs.few.are_within.Goals as goal
 
 no_more : (a b : ℕ) → nat_le a b ≡ true → a ≤ b

@@ -1,7 +1,4 @@
-use Rattle.std.proofs.Common.{◌≡◌, ℕ, List, true, get_or, take, sym, ap, ◌∙◌}
-use Rattle.std.specs.Prelude.{bit_or}
-use Rattle.std.proofs.lemmas.Bool.{eq-eqb}
-use Rattle.ncl_verdict.specs.Masks.{both, is_part, lost_data, union}
+use Rattle.ncl_verdict.proofs.Terms.{List, ap, bit_or, both, eq-eqb, get_or, is_part, lost_data, sym, take, true, union, ℕ, ◌∙◌, ◌≡◌}
 use Rattle.ncl_verdict.proofs.LostLaws.{kept-more, kept-weight, union-more}
 use Rattle.ncl_verdict.proofs.few.lost_weight.Goals as goal
 

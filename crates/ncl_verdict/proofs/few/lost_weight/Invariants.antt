@@ -1,5 +1,4 @@
-use Rattle.std.proofs.Common.{◌≡◌, take}
-use Rattle.ncl_verdict.specs.Masks.{Covers, lost_data, union, weight_lost}
+use Rattle.ncl_verdict.proofs.Terms.{Covers, lost_data, take, union, weight_lost, ◌≡◌}
 use Rattle.ncl_verdict.proofs.few.lost_weight.Given as goal
 
 -- the outputs so far

@@ -1,5 +1,4 @@
-use Rattle.std.proofs.Common.{below_more, subst}
-use Rattle.ncl_verdict.specs.Masks.{Covers, lost_mask, weight_lost}
+use Rattle.ncl_verdict.proofs.Terms.{Covers, below_more, lost_mask, subst, weight_lost}
 use Rattle.ncl_verdict.proofs.Adding.{covers-larger}
 use Rattle.ncl_verdict.proofs.few.most_lost.Goals as goal
 

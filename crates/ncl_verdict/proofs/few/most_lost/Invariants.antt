@@ -1,5 +1,4 @@
-use Rattle.std.proofs.Common.{ℕ, ◌<◌}
-use Rattle.ncl_verdict.specs.Masks.{Covers, lost_mask, weight_lost}
+use Rattle.ncl_verdict.proofs.Terms.{Covers, lost_mask, weight_lost, ℕ, ◌<◌}
 use Rattle.ncl_verdict.proofs.few.most_lost.Given as goal
 
 -- none of the variants at the places so far weighs more

@@ -1,7 +1,4 @@
-use Rattle.std.proofs.Common.{take, get_or, subst, sym}
-use Rattle.std.specs.Prelude.{sum_by}
-use Rattle.std.proofs.lemmas.List.Sums.{sum_by_more}
-use Rattle.ncl_verdict.specs.Masks.{Covers, weight_of}
+use Rattle.ncl_verdict.proofs.Terms.{Covers, get_or, subst, sum_by, sum_by_more, sym, take, weight_of}
 use Rattle.ncl_verdict.proofs.Adding.{covers-more}
 use Rattle.ncl_verdict.proofs.few.net_weights.Goals as goal
 

@@ -1,6 +1,4 @@
-use Rattle.std.proofs.Common.{take}
-use Rattle.std.specs.Prelude.{sum_by}
-use Rattle.ncl_verdict.specs.Masks.{Covers, weight_of}
+use Rattle.ncl_verdict.proofs.Terms.{Covers, sum_by, take, weight_of}
 use Rattle.ncl_verdict.proofs.few.net_weights.Given as goal
 
 abbrev pub invariant-loop-mask : goal.invariant-loop-mask

@@ -1,6 +1,4 @@
-use Rattle.std.proofs.Common.{ℕ, subst, rules}
-use Rattle.std.specs.List.Sorted.{IsPermutation}
-use Rattle.std.proofs.lemmas.List.Sorted.{IsNonDecreasingBy-from_sort_by_key}
+use Rattle.ncl_verdict.proofs.Terms.{IsNonDecreasingBy-from_sort_by_key, IsPermutation, rules, subst, ℕ}
 use Rattle.ncl_verdict.proofs.FileOrder.{sorted-places}
 use Rattle.ncl_verdict.proofs.file_order.cells_in_file_order.Goals as goal
 

@@ -1,8 +1,4 @@
-use Rattle.std.proofs.Common.{◌≡◌, ◌<◌, [], ◌∷◌, ◌++◌, length, map, get_or, sym, ◌∙◌, ap, subst}
-use Rattle.std.proofs.lemmas.List.{map-append}
-use Rattle.ncl_shape.specs.declared.stage.StageCell.{StageCell}
-use Rattle.ncl_shape.specs.Stage.{StageData}
-use Rattle.ncl_stage.specs.LeastWords.{below}
+use Rattle.ncl_verdict.proofs.Terms.{StageCell, StageData, [], ap, below, get_or, length, map, map-append, subst, sym, ◌++◌, ◌<◌, ◌∙◌, ◌∷◌, ◌≡◌}
 use Rattle.ncl_verdict.proofs.FileOrder.{numbered, below-more, file_number-at}
 use Rattle.ncl_verdict.proofs.file_order.numbered_cells.Goals as goal
 

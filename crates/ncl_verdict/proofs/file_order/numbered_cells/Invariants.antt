@@ -1,6 +1,4 @@
-use Rattle.std.proofs.Common.{◌≡◌, map}
-use Rattle.ncl_stage.specs.LeastWords.{below}
-use Rattle.ncl_verdict.specs.Judgement.{file_number}
+use Rattle.ncl_verdict.proofs.Terms.{below, file_number, map, ◌≡◌}
 use Rattle.ncl_verdict.proofs.file_order.numbered_cells.Given as goal
 
 -- the numbers and places of the cells so far

@@ -1,6 +1,4 @@
-use Rattle.std.proofs.Common.{◌<◌, length, ◌∙◌, arith}
-use Rattle.std.proofs.lemmas.List.{length-set}
-use Rattle.ncl_faults.specs.declared.variant.Variant.TheVariants.{Base}
+use Rattle.ncl_verdict.proofs.Terms.{Base, arith, length, length-set, ◌<◌, ◌∙◌}
 use Rattle.ncl_verdict.proofs.AskingLaws.{asked-limit}
 use Rattle.ncl_verdict.proofs.Parts.{said-place, silent-more}
 use Rattle.ncl_verdict.proofs.hearing.hear_taken.Goals as goal

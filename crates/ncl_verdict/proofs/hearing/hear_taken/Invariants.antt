@@ -1,6 +1,4 @@
-use Rattle.std.proofs.Common.{◌≡◌, Some, length}
-use Rattle.ncl_verdict.specs.InSpace.{IsAsked}
-use Rattle.ncl_verdict.specs.Sharing.{AreSilent}
+use Rattle.ncl_verdict.proofs.Terms.{AreSilent, IsAsked, Some, length, ◌≡◌}
 use Rattle.ncl_verdict.proofs.hearing.hear_taken.Given as goal
 
 -- the space can be asked, and nothing is said at the variants that are marked

@@ -1,7 +1,4 @@
-use Rattle.std.proofs.Common.{sym, ◌∙◌, subst}
-use Rattle.std.specs.Prelude.{All}
-use Rattle.ncl_shape.specs.Stage.{StageData}
-use Rattle.ncl_verdict.specs.InSpace.{IsAfterBase}
+use Rattle.ncl_verdict.proofs.Terms.{All, IsAfterBase, StageData, subst, sym, ◌∙◌}
 use Rattle.ncl_verdict.proofs.FileOrder.{after_base-within}
 use Rattle.ncl_verdict.proofs.in_space.after_base.Goals as goal
 

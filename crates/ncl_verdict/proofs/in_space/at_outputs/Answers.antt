@@ -1,17 +1,5 @@
-use Rattle.std.proofs.Common.{◌≡◌, None, Some, Err, sym, ◌∙◌, ap}
-use Rattle.std.specs.Option.{option_map}
-use Rattle.std.proofs.lemmas.Result.{IfOk-weaker}
-use Rattle.ncl_shape.specs.Stage.{StageData}
-use Rattle.ncl_space.specs.Space.{SpaceData, fits, with_tables}
-use Rattle.ncl_space.proofs.MakingLaws.{have-kept}
-use Rattle.ncl_faults.specs.declared.variant.Variant.TheVariants.{Base}
-use Rattle.ncl_stage.specs.BitOrder.{bit_order}
-use Rattle.ncl_stage.specs.Tables.{tables_by}
-use Rattle.ncl_stage.specs.StageTables.{ValuesData, net_tables_by}
-use Rattle.ncl_complete.specs.RailFaults.{first_rail_fault_by}
+use Rattle.ncl_verdict.proofs.Terms.{Base, Err, IfOk-weaker, None, Some, SpaceData, StageData, Stop, ValuesData, ap, at_variant, bit_order, first_rail_fault_by, fits, have-kept, net_tables_by, option_map, rail_verdict, stopped_within, sym, tables_by, with_tables, ◌∙◌, ◌≡◌}
 use Rattle.ncl_verdict.specs.declared.verdict.Verdict.TheVariants as verdict
-use Rattle.ncl_verdict.specs.Judgement.{Stop, at_variant}
-use Rattle.ncl_verdict.specs.InSpace.{stopped_within, rail_verdict}
 use Rattle.ncl_verdict.proofs.InSpaceLaws.{stops, goes_on, at-stopped, at-asked, fits-base, held-base, said-of_outputs, fault-within}
 use Rattle.ncl_verdict.proofs.in_space.at_outputs.Goals as goal
 

@@ -1,11 +1,4 @@
-use Rattle.std.proofs.Common.{◌≡◌, None, Some, ◌∙◌, subst}
-use Rattle.std.specs.Prelude.{MatchResult}
-use Rattle.std.proofs.lemmas.Result.{IfOk-weaker}
-use Rattle.ncl_shape.specs.Stage.{StageData}
-use Rattle.ncl_space.specs.Space.{SpaceData}
-use Rattle.ncl_faults.specs.declared.variant.Variant.TheVariants.{Base}
-use Rattle.ncl_verdict.specs.Judgement.{at_variant, of_stage}
-use Rattle.ncl_verdict.specs.InSpace.{IsReady, stopped_within}
+use Rattle.ncl_verdict.proofs.Terms.{Base, IfOk-weaker, IsReady, MatchResult, None, Some, SpaceData, StageData, at_variant, of_stage, stopped_within, subst, ◌∙◌, ◌≡◌}
 use Rattle.ncl_verdict.proofs.InSpaceLaws.{of_stage-said}
 use Rattle.ncl_verdict.proofs.in_space.first_answer.Goals as goal
 

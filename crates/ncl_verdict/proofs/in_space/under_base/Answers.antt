@@ -1,10 +1,5 @@
-use Rattle.std.proofs.Common.{Some, Err, sym, ◌∙◌, ap}
-use Rattle.ncl_shape.specs.Stage.{StageData}
-use Rattle.ncl_space.specs.Space.{SpaceData}
-use Rattle.ncl_faults.specs.declared.variant.Variant.TheVariants.{Base}
+use Rattle.ncl_verdict.proofs.Terms.{Base, Err, Some, SpaceData, StageData, Stop, ap, stopped_within, sym, ◌∙◌}
 use Rattle.ncl_verdict.specs.declared.verdict.Verdict.TheVariants as verdict
-use Rattle.ncl_verdict.specs.Judgement.{Stop}
-use Rattle.ncl_verdict.specs.InSpace.{stopped_within}
 use Rattle.ncl_verdict.proofs.InSpaceLaws.{stops, at-stopped, fits-new, nets-too_much, held-nets}
 use Rattle.ncl_verdict.proofs.in_space.under_base.Goals as goal
 

@@ -1,9 +1,4 @@
-use Rattle.std.proofs.Common.{◌≡◌, Some, ◌∙◌, subst, sym}
-use Rattle.std.specs.Prelude.{MatchResult}
-use Rattle.ncl_shape.specs.Stage.{StageData}
-use Rattle.ncl_faults.specs.declared.variant.Variant.TheVariants.{Base}
-use Rattle.ncl_verdict.specs.InSpace.{ReadyData}
-use Rattle.ncl_verdict.specs.Judgement.{at_variant, of_stage, stopped_at}
+use Rattle.ncl_verdict.proofs.Terms.{Base, MatchResult, ReadyData, Some, StageData, at_variant, of_stage, stopped_at, subst, sym, ◌∙◌, ◌≡◌}
 use Rattle.ncl_verdict.proofs.judging.begun.Goals as goal
 
 pub returns-then-branch : goal.returns-then-branch

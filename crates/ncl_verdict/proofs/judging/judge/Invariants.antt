@@ -1,6 +1,4 @@
-use Rattle.std.proofs.Common.{◌≡◌, ℕ, ◌<◌, None, get_or}
-use Rattle.ncl_shape.specs.Stage.{StageData}
-use Rattle.ncl_verdict.specs.Judgement.{of_stage, stopped_at}
+use Rattle.ncl_verdict.proofs.Terms.{None, StageData, get_or, of_stage, stopped_at, ℕ, ◌<◌, ◌≡◌}
 use Rattle.ncl_verdict.proofs.judging.judge.Given as goal
 
 -- nothing is said of the stages so far

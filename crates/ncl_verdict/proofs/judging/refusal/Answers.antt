@@ -1,9 +1,4 @@
-use Rattle.std.proofs.Common.{◌≡◌, ◌∙◌, subst}
-use Rattle.std.specs.Prelude.{MatchResult}
-use Rattle.std.proofs.lemmas.Result.{IfOk-weaker}
-use Rattle.ncl_shape.specs.Stage.{StageData}
-use Rattle.ncl_verdict.specs.Judgement.{of_stage, stopped_at}
-use Rattle.ncl_verdict.specs.InSpace.{ReadyData}
+use Rattle.ncl_verdict.proofs.Terms.{IfOk-weaker, MatchResult, ReadyData, StageData, of_stage, stopped_at, subst, ◌∙◌, ◌≡◌}
 use Rattle.ncl_verdict.proofs.judging.refusal.Goals as goal
 
 pub returns-in-Ok : goal.returns-in-Ok

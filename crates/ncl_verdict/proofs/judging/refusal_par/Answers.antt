@@ -1,10 +1,4 @@
-use Rattle.std.proofs.Common.{◌≡◌, Some, ◌∙◌, subst, refl, sym}
-use Rattle.std.specs.Prelude.{MatchResult}
-use Rattle.std.proofs.lemmas.Result.{IfOk-weaker}
-use Rattle.ncl_shape.specs.Stage.{StageData}
-use Rattle.ncl_verdict.specs.Judgement.{of_stage, stopped_at}
-use Rattle.ncl_verdict.specs.InSpace.{ReadyData}
-use Rattle.ncl_verdict.specs.Sharing.{IsHeard, shared_of}
+use Rattle.ncl_verdict.proofs.Terms.{IfOk-weaker, IsHeard, MatchResult, ReadyData, Some, StageData, of_stage, refl, shared_of, stopped_at, subst, sym, ◌∙◌, ◌≡◌}
 use Rattle.ncl_verdict.proofs.InSpaceLaws.{of_stage-said}
 use Rattle.ncl_verdict.proofs.judging.refusal_par.Goals as goal
 

@@ -1,7 +1,4 @@
-use Rattle.std.proofs.Common.{◌++◌, IfOk, ◌∙◌, subst}
-use Rattle.std.proofs.lemmas.List.{take-append-drop}
-use Rattle.std.proofs.lemmas.Result.{IfOk-at_ok}
-use Rattle.ncl_verdict.specs.Judgement.{Answers}
+use Rattle.ncl_verdict.proofs.Terms.{Answers, IfOk, IfOk-at_ok, subst, take-append-drop, ◌++◌, ◌∙◌}
 use Rattle.ncl_verdict.proofs.parallel.+calls.Goals as goal
 
 pub returns-in-Some : goal.returns-in-Some

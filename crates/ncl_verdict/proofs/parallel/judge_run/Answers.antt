@@ -1,5 +1,4 @@
-use Rattle.std.proofs.Common.{sym, ◌∙◌}
-use Rattle.ncl_verdict.specs.Judgement.{judgement}
+use Rattle.ncl_verdict.proofs.Terms.{judgement, sym, ◌∙◌}
 use Rattle.ncl_verdict.proofs.Split.{accepted-all, accepted-more, refused-at}
 use Rattle.ncl_verdict.proofs.parallel.judge_run.Goals as goal
 

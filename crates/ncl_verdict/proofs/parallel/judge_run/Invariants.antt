@@ -1,6 +1,5 @@
-use Rattle.std.proofs.Common.{◌≡◌, take}
+use Rattle.ncl_verdict.proofs.Terms.{judgement, take, ◌≡◌}
 use Rattle.ncl_verdict.specs.declared.verdict.Verdict.TheVariants as verdict
-use Rattle.ncl_verdict.specs.Judgement.{judgement}
 use Rattle.ncl_verdict.proofs.parallel.judge_run.Given as goal
 
 -- the stages so far are accepted

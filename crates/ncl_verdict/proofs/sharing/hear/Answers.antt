@@ -1,6 +1,4 @@
-use Rattle.std.proofs.Common.{◌≡◌, ◌∙◌, ap, length, subst, sym}
-use Rattle.ncl_verdict.specs.InSpace.{ReadyData}
-use Rattle.ncl_verdict.specs.Sharing.{IsHeard, shared_of}
+use Rattle.ncl_verdict.proofs.Terms.{IsHeard, ReadyData, ap, length, shared_of, subst, sym, ◌∙◌, ◌≡◌}
 use Rattle.ncl_verdict.proofs.sharing.hear.Goals as goal
 
 pub returns-then-parts-lt2 : goal.returns-then-parts-lt2

@@ -1,6 +1,4 @@
-use Rattle.std.proofs.Common.{◌≡◌, ℕ, ◌<◌, true, false, Some, IfSome, get_or, sym, ◌∙◌, subst, arith}
-use Rattle.ncl_faults.specs.declared.variant.Variant.TheVariants.{Base}
-use Rattle.ncl_verdict.specs.Sharing.{at_place, said_at}
+use Rattle.ncl_verdict.proofs.Terms.{Base, IfSome, Some, arith, at_place, false, get_or, said_at, subst, sym, true, ℕ, ◌<◌, ◌∙◌, ◌≡◌}
 use Rattle.ncl_verdict.proofs.InSpaceLaws.{first-none_at, first-some_at}
 use Rattle.ncl_verdict.proofs.Parts.{place-variant, place-within, silent-first}
 use Rattle.ncl_verdict.proofs.sharing.settled.Goals as goal

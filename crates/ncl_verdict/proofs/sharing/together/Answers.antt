@@ -1,5 +1,4 @@
-use Rattle.std.proofs.Common.{◌≡◌, inl, inr, Bool, false, List, Some, IfSome, get_or, sym, ◌∙◌, ap, subst}
-use Rattle.ncl_verdict.specs.Sharing.{at_place}
+use Rattle.ncl_verdict.proofs.Terms.{Bool, IfSome, List, Some, ap, at_place, false, get_or, inl, inr, subst, sym, ◌∙◌, ◌≡◌}
 use Rattle.ncl_verdict.proofs.sharing.together.Goals as goal
 
 pub returns : goal.returns

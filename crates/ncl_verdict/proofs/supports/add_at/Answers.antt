@@ -1,7 +1,4 @@
-use Rattle.std.proofs.Common.{◌<◌, length, get_or, sym, subst, ◌∙◌, arith, below_more}
-use Rattle.std.specs.Prelude.{bit_or}
-use Rattle.std.proofs.lemmas.List.{length-set}
-use Rattle.ncl_verdict.specs.Masks.{IsPart, mask_at}
+use Rattle.ncl_verdict.proofs.Terms.{IsPart, arith, below_more, bit_or, get_or, length, length-set, mask_at, subst, sym, ◌<◌, ◌∙◌}
 use Rattle.ncl_verdict.proofs.Adding.{all-by-places, with-grown, with-has, with-other, with_mask}
 use Rattle.ncl_verdict.proofs.MaskLaws.{part-along}
 use Rattle.ncl_verdict.proofs.supports.add_at.Goals as goal

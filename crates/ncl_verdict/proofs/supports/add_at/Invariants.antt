@@ -1,6 +1,4 @@
-use Rattle.std.proofs.Common.{◌≡◌, ℕ, ◌<◌, ◌≤◌, length, get_or}
-use Rattle.std.specs.Prelude.{All}
-use Rattle.ncl_verdict.specs.Masks.{IsPart, mask_at}
+use Rattle.ncl_verdict.proofs.Terms.{All, IsPart, get_or, length, mask_at, ℕ, ◌<◌, ◌≡◌, ◌≤◌}
 use Rattle.ncl_verdict.proofs.supports.add_at.Given as goal
 
 -- the mask is a part of those at the places so far, and places that are not among these are as they were

@@ -1,5 +1,4 @@
-use Rattle.std.proofs.Common.{ℕ, ◌<◌, List, length, get_or, sym, ◌∙◌, ap, subst, below_more, arith}
-use Rattle.ncl_verdict.specs.Masks.{IsPart, both, mask_at}
+use Rattle.ncl_verdict.proofs.Terms.{IsPart, List, ap, arith, below_more, both, get_or, length, mask_at, subst, sym, ℕ, ◌<◌, ◌∙◌}
 use Rattle.ncl_verdict.proofs.Adding.{IsShown, all-by-places, both-grown, both-have, both-long, shown-kept, with_both}
 use Rattle.ncl_verdict.proofs.MaskLaws.{part-along}
 use Rattle.ncl_verdict.proofs.supports.add_outputs.Goals as goal

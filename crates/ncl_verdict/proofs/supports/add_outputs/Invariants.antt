@@ -1,5 +1,4 @@
-use Rattle.std.proofs.Common.{◌≡◌, ℕ, ◌<◌, length, get_or}
-use Rattle.ncl_verdict.specs.Masks.{IsPart, mask_at}
+use Rattle.ncl_verdict.proofs.Terms.{IsPart, get_or, length, mask_at, ℕ, ◌<◌, ◌≡◌}
 use Rattle.ncl_verdict.proofs.Adding.{IsShown}
 use Rattle.ncl_verdict.proofs.supports.add_outputs.Given as goal
 

@@ -1,6 +1,4 @@
-use Rattle.std.proofs.Common.{get_or, below_more, arith}
-use Rattle.std.specs.Prelude.{bit_or}
-use Rattle.ncl_verdict.specs.Masks.{IsPart, mask_at}
+use Rattle.ncl_verdict.proofs.Terms.{IsPart, arith, below_more, bit_or, get_or, mask_at}
 use Rattle.ncl_verdict.proofs.Adding.{all-by-places}
 use Rattle.ncl_verdict.proofs.MaskLaws.{part-along, part-left, part-right}
 use Rattle.ncl_verdict.proofs.supports.all_of.Goals as goal

@@ -1,5 +1,4 @@
-use Rattle.std.proofs.Common.{ℕ, ◌<◌, get_or}
-use Rattle.ncl_verdict.specs.Masks.{IsPart, mask_at}
+use Rattle.ncl_verdict.proofs.Terms.{IsPart, get_or, mask_at, ℕ, ◌<◌}
 use Rattle.ncl_verdict.proofs.supports.all_of.Given as goal
 
 -- the masks at the places so far are parts of it

@@ -1,8 +1,4 @@
-use Rattle.std.proofs.Common.{◌≡◌, ℕ, ◌*◌, ◌%◌, ◌^◌, ◌<◌, true, ◌∙◌, ap, subst, arith}
-use Rattle.std.specs.Prelude.{nat_eq}
-use Rattle.std.proofs.lemmas.Nat.{one_shl}
-use Rattle.std.proofs.lemmas.Nat.Bits.{bit_at-pow_same}
-use Rattle.ncl_gates.specs.Bits.{is_set}
+use Rattle.ncl_verdict.proofs.Terms.{ap, arith, bit_at-pow_same, is_set, nat_eq, one_shl, subst, true, ℕ, ◌%◌, ◌*◌, ◌<◌, ◌^◌, ◌∙◌, ◌≡◌}
 use Rattle.ncl_verdict.proofs.supports.rail_mask.Goals as goal
 
 -- the bit of a place is set

@@ -1,10 +1,4 @@
-use Rattle.std.proofs.Common.{◌+◌, ◌*◌, ◌<◌, [], length, get_or, sym, ◌∙◌, ap, subst, arith}
-use Rattle.std.specs.Prelude.{All}
-use Rattle.std.proofs.lemmas.List.{length-map}
-use Rattle.ncl_shape.specs.Stage.{StageData}
-use Rattle.ncl_stage.specs.Wiring.{WiringData, pin_places}
-use Rattle.ncl_stage.proofs.ChangedLaws.{nets-length, pins-before}
-use Rattle.ncl_stage.proofs.OutputLaws.{outputs-within}
+use Rattle.ncl_verdict.proofs.Terms.{All, StageData, WiringData, [], ap, arith, get_or, length, length-map, nets-length, outputs-within, pin_places, pins-before, subst, sym, ◌*◌, ◌+◌, ◌<◌, ◌∙◌}
 use Rattle.ncl_verdict.proofs.supports.reaches.Goals as goal
 
 pub spread-requires-clause-cells : goal.spread-requires-clause-cells

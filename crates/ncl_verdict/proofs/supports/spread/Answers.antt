@@ -1,7 +1,4 @@
-use Rattle.std.proofs.Common.{◌≡◌, ℕ, ◌+◌, ◌-◌, ◌*◌, ◌<◌, List, length, sym, ◌∙◌, ap, subst, arith}
-use Rattle.std.specs.Prelude.{All}
-use Rattle.ncl_stage.specs.Wiring.{WiringData}
-use Rattle.ncl_verdict.specs.Masks.{AreReaches, IsPart, mask_at}
+use Rattle.ncl_verdict.proofs.Terms.{All, AreReaches, IsPart, List, WiringData, ap, arith, length, mask_at, subst, sym, ℕ, ◌*◌, ◌+◌, ◌-◌, ◌<◌, ◌∙◌, ◌≡◌}
 use Rattle.ncl_verdict.proofs.Adding.{IsShown, reaches-next}
 use Rattle.ncl_verdict.proofs.supports.spread.Goals as goal
 

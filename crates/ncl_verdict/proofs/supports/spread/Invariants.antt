@@ -1,5 +1,4 @@
-use Rattle.std.proofs.Common.{◌≡◌, ◌≤◌, length}
-use Rattle.ncl_verdict.specs.Masks.{AreReaches}
+use Rattle.ncl_verdict.proofs.Terms.{AreReaches, length, ◌≡◌, ◌≤◌}
 use Rattle.ncl_verdict.proofs.supports.spread.Given as goal
 
 -- what the cells from one on reach is told to those that they read

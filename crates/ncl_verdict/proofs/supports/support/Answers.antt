@@ -1,12 +1,4 @@
-use Rattle.std.proofs.Common.{◌≡◌, ℕ, ◌+◌, ◌-◌, ◌*◌, ◌/◌, ◌<◌, true, List, [], length, get_or, sym, ◌∙◌, ap, subst, arith}
-use Rattle.std.specs.Prelude.{All}
-use Rattle.std.proofs.lemmas.List.{length-map}
-use Rattle.std.proofs.lemmas.List.Elements.{All-contains}
-use Rattle.ncl_gates.specs.Bits.{is_set}
-use Rattle.ncl_shape.specs.Stage.{StageData}
-use Rattle.ncl_stage.specs.Wiring.{WiringData, pin_places, place_in}
-use Rattle.ncl_stage.proofs.ChangedLaws.{nets-length, pins-before}
-use Rattle.ncl_verdict.specs.Masks.{IsPart, mask_at}
+use Rattle.ncl_verdict.proofs.Terms.{All, All-contains, IsPart, List, StageData, WiringData, [], ap, arith, get_or, is_set, length, length-map, mask_at, nets-length, pin_places, pins-before, place_in, subst, sym, true, ℕ, ◌*◌, ◌+◌, ◌-◌, ◌/◌, ◌<◌, ◌∙◌, ◌≡◌}
 use Rattle.ncl_verdict.proofs.supports.support.Goals as goal
 
 pub rail_mask-requires-clause-bit : goal.rail_mask-requires-clause-bit

@@ -1,8 +1,4 @@
-use Rattle.std.proofs.Common.{ℕ, ◌+◌, ◌<◌, List, [], ◌∷◌, length, sym, ◌∙◌, ap, subst, arith}
-use Rattle.std.proofs.lemmas.List.{length-append}
-use Rattle.ncl_shape.specs.Stage.{StageData, nets_of}
-use Rattle.ncl_stage.specs.Wiring.{WiringData}
-use Rattle.ncl_verdict.specs.Masks.{AreMasks, IsSupport}
+use Rattle.ncl_verdict.proofs.Terms.{AreMasks, IsSupport, List, StageData, WiringData, [], ap, arith, length, length-append, nets_of, subst, sym, ℕ, ◌+◌, ◌<◌, ◌∙◌, ◌∷◌}
 use Rattle.ncl_verdict.proofs.Supporting.{masks-next}
 use Rattle.ncl_verdict.proofs.supports.supports.Goals as goal
 

@@ -1,5 +1,4 @@
-use Rattle.std.proofs.Common.{◌≡◌, length}
-use Rattle.ncl_verdict.specs.Masks.{AreMasks}
+use Rattle.ncl_verdict.proofs.Terms.{AreMasks, length, ◌≡◌}
 use Rattle.ncl_verdict.proofs.supports.supports.Given as goal
 
 -- the masks of the nets at the places so far

@@ -1,8 +1,4 @@
-use Rattle.std.proofs.Common.{get_or, sym, ◌∙◌, ap}
-use Rattle.std.proofs.lemmas.Option.{slice_get-get_or}
-use Rattle.ncl_shape.specs.declared.stage.StageCell.{StageCell}
-use Rattle.ncl_shape.specs.Stage.{StageData}
-use Rattle.ncl_verdict.specs.Judgement.{cell_number}
+use Rattle.ncl_verdict.proofs.Terms.{StageCell, StageData, ap, cell_number, get_or, slice_get-get_or, sym, ◌∙◌}
 use Rattle.ncl_verdict.proofs.variants.cell_at.Goals as goal
 
 pub returns : goal.returns

@@ -1,9 +1,4 @@
-use Rattle.std.proofs.Common.{◌≡◌, ◌≤◌, Some, length, get_or, sym, ◌∙◌, ap, arith}
-use Rattle.ncl_shape.specs.Stage.{StageData}
-use Rattle.ncl_faults.specs.declared.variant.Variant.{Variant}
-use Rattle.ncl_faults.specs.declared.variant.Variant.TheVariants.{Base}
-use Rattle.ncl_verdict.specs.Judgement.{Stop, at_variant}
-use Rattle.ncl_verdict.specs.InSpace.{stopped_within}
+use Rattle.ncl_verdict.proofs.Terms.{Base, Some, StageData, Stop, Variant, ap, arith, at_variant, get_or, length, stopped_within, sym, ◌∙◌, ◌≡◌, ◌≤◌}
 use Rattle.ncl_verdict.proofs.InSpaceLaws.{first-none_at, first-none_more, first-some_at}
 use Rattle.ncl_verdict.proofs.AskingLaws.{asked-limit}
 use Rattle.ncl_verdict.proofs.variants.first_said.Goals as goal

@@ -1,7 +1,4 @@
-use Rattle.std.proofs.Common.{◌≡◌, ℕ, ◌<◌, None, get_or}
-use Rattle.ncl_faults.specs.declared.variant.Variant.{Variant}
-use Rattle.ncl_verdict.specs.Judgement.{at_variant}
-use Rattle.ncl_verdict.specs.InSpace.{IsAsked, stopped_within}
+use Rattle.ncl_verdict.proofs.Terms.{IsAsked, None, Variant, at_variant, get_or, stopped_within, ℕ, ◌<◌, ◌≡◌}
 use Rattle.ncl_verdict.proofs.variants.first_said.Given as goal
 
 -- the space can be asked, and nothing is said at the variants so far

@@ -1,7 +1,4 @@
-use Rattle.std.proofs.Common.{[], ◌∷◌, ◌++◌, map, sym, ◌∙◌, ap}
-use Rattle.std.proofs.lemmas.List.{append_assoc, map-append}
-use Rattle.ncl_stage.specs.LeastWords.{below}
-use Rattle.ncl_faults.specs.declared.variant.Variant.TheVariants.{Bit}
+use Rattle.ncl_verdict.proofs.Terms.{Bit, [], ap, append_assoc, below, map, map-append, sym, ◌++◌, ◌∙◌, ◌∷◌}
 use Rattle.ncl_verdict.proofs.FileOrder.{below-more}
 use Rattle.ncl_verdict.proofs.variants.push_bits.Goals as goal
 

@@ -1,6 +1,4 @@
-use Rattle.std.proofs.Common.{◌≡◌, ◌++◌, map}
-use Rattle.ncl_stage.specs.LeastWords.{below}
-use Rattle.ncl_faults.specs.declared.variant.Variant.TheVariants.{Bit}
+use Rattle.ncl_verdict.proofs.Terms.{Bit, below, map, ◌++◌, ◌≡◌}
 use Rattle.ncl_verdict.proofs.variants.push_bits.Given as goal
 
 -- the bits so far are there

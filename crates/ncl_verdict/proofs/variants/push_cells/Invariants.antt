@@ -1,5 +1,4 @@
-use Rattle.std.proofs.Common.{◌≡◌, ◌++◌, map, take}
-use Rattle.ncl_faults.specs.declared.variant.Variant.TheVariants.{Cell}
+use Rattle.ncl_verdict.proofs.Terms.{Cell, map, take, ◌++◌, ◌≡◌}
 use Rattle.ncl_verdict.proofs.variants.push_cells.Given as goal
 
 -- the cells so far are there

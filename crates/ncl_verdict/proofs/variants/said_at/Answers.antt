@@ -1,10 +1,5 @@
-use Rattle.std.proofs.Common.{◌≡◌, [], ◌∷◌, Some, None, Err, IfOk, sym, ◌∙◌, ap, subst}
-use Rattle.ncl_shape.specs.Stage.{StageData}
-use Rattle.ncl_space.specs.declared.space.SpaceFault.TheVariants.{Full}
-use Rattle.ncl_faults.specs.Faults.{StageFault}
-use Rattle.ncl_stage.specs.LeastWords.{faults_of}
+use Rattle.ncl_verdict.proofs.Terms.{Err, Full, IfOk, None, Some, StageData, StageFault, [], ap, faults_of, subst, sym, verdict_of, ◌∙◌, ◌∷◌, ◌≡◌}
 use Rattle.ncl_verdict.specs.declared.verdict.Verdict.TheVariants as verdict
-use Rattle.ncl_verdict.specs.Judgement.{verdict_of}
 use Rattle.ncl_verdict.proofs.AskingLaws.{asked-full, asked-word, fault-after}
 use Rattle.ncl_verdict.proofs.variants.said_at.Goals as goal
 

@@ -1,11 +1,5 @@
-use Rattle.std.proofs.Common.{◌≡◌, ◌+◌, [], ◌∷◌, Some, ◌∙◌, ap, subst}
-use Rattle.ncl_faults.specs.declared.variant.Variant.{Variant}
-use Rattle.ncl_faults.specs.Faults.{StageFault}
-use Rattle.ncl_shape.specs.Stage.{StageData}
+use Rattle.ncl_verdict.proofs.Terms.{IsAfterBase, Some, StageData, StageFault, Variant, [], ap, faults_of, subst, verdict_of, ◌+◌, ◌∙◌, ◌∷◌, ◌≡◌}
 use Rattle.ncl_verdict.specs.declared.verdict.Verdict.TheVariants as verdict
-use Rattle.ncl_stage.specs.LeastWords.{faults_of}
-use Rattle.ncl_verdict.specs.InSpace.{IsAfterBase}
-use Rattle.ncl_verdict.specs.Judgement.{verdict_of}
 use Rattle.ncl_verdict.proofs.AskingLaws.{one-fault}
 use Rattle.ncl_verdict.proofs.variants.told.Goals as goal
 

@@ -1,8 +1,4 @@
-use Rattle.std.proofs.Common.{◌≡◌, ◌++◌, ℕ, length, map, sym, ◌∙◌, ap}
-use Rattle.std.proofs.lemmas.Simd.{map-map}
-use Rattle.ncl_shape.specs.Stage.{StageData}
-use Rattle.ncl_stage.specs.LeastWords.{below}
-use Rattle.ncl_faults.specs.declared.variant.Variant.TheVariants.{Bit, Cell}
+use Rattle.ncl_verdict.proofs.Terms.{Bit, Cell, StageData, ap, below, length, map, map-map, sym, ℕ, ◌++◌, ◌∙◌, ◌≡◌}
 use Rattle.ncl_verdict.proofs.variants.variants_after_base.Goals as goal
 
 pub returns : goal.returns

@@ -1,10 +1,4 @@
-use Rattle.std.proofs.Common.{◌≡◌, ℕ, ◌+◌, ◌<◌, ◌≤◌, List, [], ◌∷◌, ◌++◌, length, map, take, get_or, sym, ap, subst, ◌∙◌, arith, unwrap_or}
-use Rattle.std.specs.List.{zip}
-use Rattle.std.proofs.lemmas.List.{get_or_default, length-map, length_push}
-use Rattle.ncl_gates.specs.Cell.{pins_of}
-use Rattle.ncl_netlist.specs.declared.ids.NetId.{NetId}
-use Rattle.ncl_netlist.specs.Netlist.{pin_names}
-use Rattle.ncl_writer.specs.Text.{pin_text}
+use Rattle.ncl_writer.proofs.Terms.{List, NetId, [], ap, arith, get_or, get_or_default, length, length-map, length_push, map, pin_names, pin_text, pins_of, subst, sym, take, unwrap_or, zip, ℕ, ◌++◌, ◌+◌, ◌<◌, ◌∙◌, ◌∷◌, ◌≡◌, ◌≤◌}
 use Rattle.ncl_writer.proofs.Opened.{Opens-more, zip-push, pin_at, net_at, net_there}
 use Rattle.ncl_writer.proofs.row_text.push_pins.Goals as goal
 

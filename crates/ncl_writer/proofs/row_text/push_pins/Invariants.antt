@@ -1,8 +1,4 @@
-use Rattle.std.proofs.Common.{map, take}
-use Rattle.std.specs.List.{zip}
-use Rattle.ncl_gates.specs.Cell.{pins_of}
-use Rattle.ncl_netlist.specs.Netlist.{pin_names}
-use Rattle.ncl_writer.specs.Text.{pin_text}
+use Rattle.ncl_writer.proofs.Terms.{map, pin_names, pin_text, pins_of, take, zip}
 use Rattle.ncl_writer.proofs.Opened.{Opens}
 use Rattle.ncl_writer.proofs.row_text.push_pins.Given as goal
 

@@ -1,6 +1,4 @@
-use Rattle.std.proofs.Common.{◌++◌, ◌∙◌, map, take, ◌+◌}
-use Rattle.ncl_netlist.specs.declared.port.Port.{Port}
-use Rattle.ncl_writer.specs.Names.{spelled_name}
+use Rattle.ncl_writer.proofs.Terms.{Port, map, spelled_name, take, ◌++◌, ◌+◌, ◌∙◌}
 use Rattle.ncl_writer.proofs.Opened.{Opens-more, map-more}
 use Rattle.ncl_writer.proofs.row_text.push_ports.Goals as goal
 

@@ -1,6 +1,4 @@
-use Rattle.std.proofs.Common.{◌≡◌, ◌++◌, take}
-use Rattle.std.specs.List.{flat_map}
-use Rattle.ncl_writer.specs.Text.{cell_line}
+use Rattle.ncl_writer.proofs.Terms.{cell_line, flat_map, take, ◌++◌, ◌≡◌}
 use Rattle.ncl_writer.proofs.writer.push_cells.Given as goal
 
 abbrev pub invariant-loop-cell : goal.invariant-loop-cell

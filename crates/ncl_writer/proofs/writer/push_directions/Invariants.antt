@@ -1,6 +1,4 @@
-use Rattle.std.proofs.Common.{◌≡◌, ◌++◌, take}
-use Rattle.std.specs.List.{flat_map}
-use Rattle.ncl_writer.specs.Text.{port_line}
+use Rattle.ncl_writer.proofs.Terms.{flat_map, port_line, take, ◌++◌, ◌≡◌}
 use Rattle.ncl_writer.proofs.writer.push_directions.Given as goal
 
 abbrev pub invariant-loop-port : goal.invariant-loop-port

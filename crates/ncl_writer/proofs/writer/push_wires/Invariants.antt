@@ -1,6 +1,4 @@
-use Rattle.std.proofs.Common.{◌≡◌, ◌++◌, take}
-use Rattle.std.specs.List.{flat_map}
-use Rattle.ncl_writer.specs.Text.{wire_line}
+use Rattle.ncl_writer.proofs.Terms.{flat_map, take, wire_line, ◌++◌, ◌≡◌}
 use Rattle.ncl_writer.proofs.writer.push_wires.Given as goal
 
 abbrev pub invariant-loop-net : goal.invariant-loop-net

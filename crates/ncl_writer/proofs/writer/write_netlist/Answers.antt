@@ -1,6 +1,4 @@
-use Rattle.std.proofs.Common.{◌≡◌, arith}
-use Rattle.std.proofs.lemmas.Grind.{common_steps}
-use Rattle.ncl_writer.specs.Text.{text_of}
+use Rattle.ncl_writer.proofs.Terms.{arith, common_steps, text_of, ◌≡◌}
 use Rattle.ncl_writer.proofs.ReadsBack.{reads_again}
 use Rattle.ncl_writer.proofs.writer.write_netlist.Goals as goal
 

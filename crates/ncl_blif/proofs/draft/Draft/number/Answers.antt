@@ -1,5 +1,4 @@
-use Rattle.std.proofs.Common.{◌≡◌, ◌+◌, true, false, ap, ◌∙◌, subst, Some}
-use Rattle.ncl_blif.specs.Numbered.{is_driven, signal_number}
+use Rattle.ncl_blif.proofs.Terms.{Some, ap, false, is_driven, signal_number, subst, true, ◌+◌, ◌∙◌, ◌≡◌}
 use Rattle.ncl_blif.proofs.BodySteps.{number-none, number-input, number-cover}
 use Rattle.ncl_blif.proofs.draft.Draft.number.Goals as goal
 

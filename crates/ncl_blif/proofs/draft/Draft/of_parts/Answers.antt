@@ -1,8 +1,4 @@
-use Rattle.std.proofs.Common.{◌≤◌, length, take, subst, sym, ap, inl, inr, ⊎_elim, arith}
-use Rattle.std.proofs.lemmas.Result.{err_from_is_err_and}
-use Rattle.ncl_base.specs.declared.source.TheConstants.{MOST_BYTES}
-use Rattle.ncl_blif.specs.Named.{drivers_of}
-use Rattle.ncl_blif.specs.Body.{said_by}
+use Rattle.ncl_blif.proofs.Terms.{MOST_BYTES, ap, arith, drivers_of, err_from_is_err_and, inl, inr, length, said_by, subst, sym, take, ⊎_elim, ◌≤◌}
 use Rattle.ncl_blif.proofs.PartSteps.{taken-more, taken-broken, taken-all, drivers-room}
 use Rattle.ncl_blif.proofs.draft.Draft.of_parts.Goals as goal
 

@@ -1,10 +1,4 @@
-use Rattle.std.proofs.Common.{◌≡◌, ◌++◌, map, false, sym, ap, ◌∙◌, inl, inr, ⊎_elim}
-use Rattle.std.proofs.lemmas.Result.{MatchResult-weaker}
-use Rattle.ncl_blif.specs.Commands.{field_of}
-use Rattle.ncl_blif.specs.Parts.{is_names}
-use Rattle.ncl_blif.specs.Named.{drivers_of, cover_of, later_fields}
-use Rattle.ncl_blif.specs.LineFaults.{has_twins}
-use Rattle.ncl_blif.specs.Body.{said_by}
+use Rattle.ncl_blif.proofs.Terms.{MatchResult-weaker, ap, cover_of, drivers_of, false, field_of, has_twins, inl, inr, is_names, later_fields, map, said_by, sym, ⊎_elim, ◌++◌, ◌∙◌, ◌≡◌}
 use Rattle.ncl_blif.proofs.Commands.{with_part, with_part-outputs, with_part-names, cover-twins}
 use Rattle.ncl_blif.proofs.draft_body.DraftBody.add_command.Goals as goal
 

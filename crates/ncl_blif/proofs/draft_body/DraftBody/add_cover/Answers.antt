@@ -1,12 +1,5 @@
-use Rattle.std.proofs.Common.{◌≡◌, ◌++◌, ◌∷◌, [], length, refl, ap, sym, ◌∙◌, arith, inl, inr, Some, cond, ⊎_elim}
-use Rattle.std.proofs.lemmas.Result.{err_from_is_err_and}
-use Rattle.std.specs.Str.{bytes_eq}
+use Rattle.ncl_blif.proofs.Terms.{Some, TwoDrivers, [], ap, arith, bytes_eq, cond, cover_of, cover_out, driver_at, err_from_is_err_and, inl, inr, is_driven, length, refl, said_by, sym, ⊎_elim, ◌++◌, ◌∙◌, ◌∷◌, ◌≡◌}
 use Rattle.ncl_blif.specs.declared.drivers.Driver.TheVariants.{Cover}
-use Rattle.ncl_blif.specs.declared.fault.BlifFault.TheVariants.{TwoDrivers}
-use Rattle.ncl_blif.specs.Drivers.{driver_at}
-use Rattle.ncl_blif.specs.Named.{cover_of, cover_out}
-use Rattle.ncl_blif.specs.Numbered.{is_driven}
-use Rattle.ncl_blif.specs.Body.{said_by}
 use Rattle.ncl_blif.proofs.BodySteps.{driven-is, kept-cover}
 use Rattle.ncl_blif.proofs.draft_body.DraftBody.add_cover.Goals as goal
 

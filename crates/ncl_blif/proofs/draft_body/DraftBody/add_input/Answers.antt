@@ -1,10 +1,4 @@
-use Rattle.std.proofs.Common.{◌≡◌, false, length, map, refl, ap, sym, ◌∙◌, arith, inr, Some, cond}
-use Rattle.std.proofs.lemmas.List.{map_push, length-map}
-use Rattle.std.specs.Str.{bytes_eq}
-use Rattle.ncl_blif.specs.declared.drivers.Driver.TheVariants.{Input}
-use Rattle.ncl_blif.specs.Drivers.{driver_at}
-use Rattle.ncl_blif.specs.Numbered.{is_driven}
-use Rattle.ncl_blif.specs.Body.{said_by}
+use Rattle.ncl_blif.proofs.Terms.{Input, Some, ap, arith, bytes_eq, cond, driver_at, false, inr, is_driven, length, length-map, map, map_push, refl, said_by, sym, ◌∙◌, ◌≡◌}
 use Rattle.ncl_blif.proofs.BodySteps.{driven-is, kept-input}
 use Rattle.ncl_blif.proofs.draft_body.DraftBody.add_input.Goals as goal
 

@@ -1,8 +1,4 @@
-use Rattle.std.proofs.Common.{◌+◌, ◌<◌, ◌++◌, length, map, take, sym, ap, ◌∙◌, arith, inl, inr, ⊎_elim}
-use Rattle.std.proofs.lemmas.Result.{err_from_is_err_and}
-use Rattle.std.proofs.lemmas.List.{map_more, get_or-map, length-map, length-append, length-take, take-map, take_all}
-use Rattle.ncl_blif.specs.Named.{drivers_of}
-use Rattle.ncl_blif.specs.Body.{said_by}
+use Rattle.ncl_blif.proofs.Terms.{ap, arith, drivers_of, err_from_is_err_and, get_or-map, inl, inr, length, length-append, length-map, length-take, map, map_more, said_by, sym, take, take-map, take_all, ⊎_elim, ◌++◌, ◌+◌, ◌<◌, ◌∙◌}
 use Rattle.ncl_blif.proofs.BodySteps.{with_inputs, outs_of, inputs-more, inputs-twice, inputs-all}
 use Rattle.ncl_blif.proofs.draft_body.DraftBody.add_inputs.Goals as goal
 

@@ -1,5 +1,4 @@
-use Rattle.std.proofs.Common.{◌≡◌, ◌++◌, map, take}
-use Rattle.ncl_blif.specs.Body.{said_by, AreDriversKept}
+use Rattle.ncl_blif.proofs.Terms.{AreDriversKept, map, said_by, take, ◌++◌, ◌≡◌}
 use Rattle.ncl_blif.proofs.BodySteps.{with_inputs}
 use Rattle.ncl_blif.proofs.draft_body.DraftBody.add_inputs.Given as goal
 

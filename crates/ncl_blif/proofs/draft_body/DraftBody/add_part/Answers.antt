@@ -1,7 +1,4 @@
-use Rattle.std.proofs.Common.{◌||◌, length, Some, sym, ap, ◌∙◌, inl, inr, ⊎_elim}
-use Rattle.std.proofs.lemmas.Result.{err_from_is_err_and}
-use Rattle.std.proofs.lemmas.List.{length-map}
-use Rattle.ncl_blif.specs.Parts.{first_field, is_end}
+use Rattle.ncl_blif.proofs.Terms.{Some, ap, err_from_is_err_and, first_field, inl, inr, is_end, length, length-map, sym, ⊎_elim, ◌||◌, ◌∙◌}
 use Rattle.ncl_blif.proofs.Commands.{command-is, names-two}
 use Rattle.ncl_blif.proofs.PartSteps.{with_part-is, twins-after, fault-twice, fault-rows, ended-more}
 use Rattle.ncl_blif.proofs.draft_body.DraftBody.add_part.Goals as goal

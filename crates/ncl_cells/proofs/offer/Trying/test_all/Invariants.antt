@@ -1,6 +1,4 @@
-use Rattle.std.proofs.Common.{ℕ, ◌<◌}
-use Rattle.ncl_decomp.specs.Words.{word_of}
-use Rattle.ncl_cells.specs.Recasts.{AgreesAt}
+use Rattle.ncl_cells.proofs.Terms.{AgreesAt, word_of, ℕ, ◌<◌}
 use Rattle.ncl_cells.proofs.offer.Trying.test_all.Given as goal
 
 abbrev pub invariant-loop-number : goal.invariant-loop-number

@@ -1,5 +1,4 @@
-use Rattle.std.proofs.Common.{sym, subst, ◌∙◌}
-use Rattle.ncl_cells.specs.Cones.{IsKnown}
+use Rattle.ncl_cells.proofs.Terms.{IsKnown, subst, sym, ◌∙◌}
 use Rattle.ncl_cells.proofs.Cones.{same_bits}
 use Rattle.ncl_cells.proofs.offer.Trying.test_word.Goals as goal
 

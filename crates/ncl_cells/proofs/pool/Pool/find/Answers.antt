@@ -1,6 +1,4 @@
-use Rattle.std.proofs.Common.{◌≡◌, length, ap, refl, sym, ◌∙◌, Some}
-use Rattle.std.specs.Prelude.{slice_get}
-use Rattle.std.proofs.lemmas.Option.{slice_get_read}
+use Rattle.ncl_cells.proofs.Terms.{Some, ap, length, refl, slice_get, slice_get_read, sym, ◌∙◌, ◌≡◌}
 use Rattle.ncl_cells.proofs.pool.Pool.find.Goals as goal
 
 pub returns-then-is_same : goal.returns-then-is_same

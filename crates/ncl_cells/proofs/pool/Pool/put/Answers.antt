@@ -1,10 +1,4 @@
-use Rattle.std.proofs.Common.{ℕ, List, length, sym, subst}
-use Rattle.ncl_network.specs.declared.network.SignalSource.TheVariants.{Node as FromNode}
-use Rattle.ncl_network.specs.declared.network.Signal.{Signal}
-use Rattle.ncl_cells.specs.declared.form.Form.{Form}
-use Rattle.ncl_cells.specs.declared.small.Small.{Small}
-use Rattle.ncl_cells.specs.Forms.{form_value, IsFormOver}
-use Rattle.ncl_cells.specs.Pools.{Adds}
+use Rattle.ncl_cells.proofs.Terms.{Adds, Form, FromNode, IsFormOver, List, Signal, Small, form_value, length, subst, sym, ℕ}
 use Rattle.ncl_cells.proofs.Pools.{Adds-found, Adds-pushed}
 use Rattle.ncl_cells.proofs.pool.Pool.put.Goals as goal
 

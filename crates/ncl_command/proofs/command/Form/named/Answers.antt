@@ -1,8 +1,5 @@
-use Rattle.std.proofs.Common.{◌≡◌, ◌≢◌, ◌∙◌, ℕ, List, Bool, true, false, Option, codes, refl}
+use Rattle.ncl_command.proofs.Terms.{Bool, Command, List, Option, bytes_eq, bytes_eq-Decides, codes, false, refl, true, ℕ, ◌∙◌, ◌≡◌, ◌≢◌}
 use Rattle.std.specs.Prelude.{if◌then◌else◌}
-use Rattle.std.specs.Str.{bytes_eq}
-use Rattle.std.proofs.lemmas.Slice.Eq.{bytes_eq-Decides}
-use Rattle.ncl_command.specs.Command.{Command}
 use Rattle.ncl_command.proofs.command.Form.named.Goals as goal
 
 -- a name that isn't this one goes on to the next

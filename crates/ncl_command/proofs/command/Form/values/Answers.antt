@@ -1,7 +1,5 @@
-use Rattle.std.proofs.Common.{IfOk, Bor, List, ℕ, map, sym, subst}
-use Rattle.std.specs.Prelude.{◌≡◌, option_map}
-use Rattle.ncl_command.specs.Reading.{values_of}
-use Rattle.ncl_command.specs.Meaning.{form_read, values_found}
+use Rattle.ncl_command.proofs.Terms.{Bor, IfOk, List, form_read, map, option_map, subst, sym, values_found, values_of, ℕ}
+use Rattle.std.specs.Prelude.{◌≡◌}
 use Rattle.ncl_command.proofs.command.Form.values.Goals as goal
 
 pub returns-in-Sim : goal.returns-in-Sim

@@ -1,16 +1,5 @@
-use Rattle.std.proofs.Common.{◌≡◌, ◌≤◌, ◌+◌, ◌*◌, Bool, List, [], ◌∷◌, map, sym, subst, ap, ◌∙◌, arith}
+use Rattle.ncl_diagram.proofs.Terms.{Applies, Bool, DiagramData, Leaves, List, Node, Ref, There, [], ap, arith, bead_count, diagram_space, gate_table, held_of, map, operand_bound, places, product, subst, sym, table_from, ◌*◌, ◌+◌, ◌∙◌, ◌∷◌, ◌≡◌, ◌≤◌}
 use Rattle.std.specs.FinSet as set
-use Rattle.ncl_space.specs.declared.space.Ref.{Ref}
-use Rattle.ncl_space.specs.Beads.{bead_count}
-use Rattle.ncl_space.specs.Functions.{gate_table}
-use Rattle.ncl_diagram.specs.declared.nodes.Node.{Node}
-use Rattle.ncl_diagram.specs.Diagram.{Applies, DiagramData, diagram_space}
-use Rattle.ncl_diagram.specs.Leaves.{Leaves}
-use Rattle.ncl_diagram.specs.Memo.{places}
-use Rattle.ncl_diagram.specs.Holding.{held_of}
-use Rattle.ncl_diagram.specs.Nodes.{table_from}
-use Rattle.ncl_diagram.specs.Operands.{There}
-use Rattle.ncl_diagram.specs.Steps.{operand_bound, product}
 use Rattle.ncl_diagram.proofs.Counting.{product_filled}
 use Rattle.ncl_diagram.proofs.HeldSets.{len-held}
 use Rattle.ncl_diagram.proofs.DiagramLaws.{Keeps-grown, There-live, adds_by, bound_of-places, fits_by, full_by, made_by, tables_of-places, with_nodes}

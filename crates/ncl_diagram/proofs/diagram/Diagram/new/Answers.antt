@@ -1,8 +1,4 @@
-use Rattle.std.proofs.Common.{◌<◌, ◌^◌, ℕ, List, [], sym, subst, arith}
-use Rattle.ncl_space.specs.Space.{IsNew, IsSpace}
-use Rattle.ncl_diagram.specs.declared.nodes.Node.{Node}
-use Rattle.ncl_diagram.specs.Diagram.{DiagramData, diagram_space}
-use Rattle.ncl_diagram.specs.Nodes.{IsCanonical}
+use Rattle.ncl_diagram.proofs.Terms.{DiagramData, IsCanonical, IsNew, IsSpace, List, Node, [], arith, diagram_space, subst, sym, ℕ, ◌<◌, ◌^◌}
 use Rattle.ncl_diagram.proofs.DiagramLaws.{IsDiagram-none, IsNew-diagram, IsSpace-diagram}
 use Rattle.ncl_diagram.proofs.diagram.Diagram.new.Goals as goal
 

@@ -1,5 +1,4 @@
-use Rattle.std.proofs.Common.{length, sym, subst, ap, ◌∙◌, arith}
-use Rattle.ncl_diagram.specs.Diagram.{DiagramData, IsDiagram}
+use Rattle.ncl_diagram.proofs.Terms.{DiagramData, IsDiagram, ap, arith, length, subst, sym, ◌∙◌}
 use Rattle.ncl_diagram.proofs.DiagramLaws.{IsSpace-diagram, one_ref}
 use Rattle.ncl_diagram.proofs.HeldSets.{len-held}
 use Rattle.ncl_diagram.proofs.diagram.Diagram.nodes.Goals as goal

@@ -1,5 +1,4 @@
-use Rattle.std.proofs.Common.{ap, ◌∙◌}
-use Rattle.ncl_diagram.specs.Nodes.{table_from}
+use Rattle.ncl_diagram.proofs.Terms.{ap, table_from, ◌∙◌}
 use Rattle.ncl_diagram.proofs.Rails.{table_from-constant}
 use Rattle.ncl_diagram.proofs.diagram.DiagramSpace.constant.Goals as goal
 

@@ -1,5 +1,4 @@
-use Rattle.std.proofs.Common.{subst, arith}
-use Rattle.ncl_diagram.specs.Diagram.{DiagramData, IsDiagram}
+use Rattle.ncl_diagram.proofs.Terms.{DiagramData, IsDiagram, arith, subst}
 use Rattle.ncl_diagram.proofs.DiagramLaws.{IsSpace-diagram}
 use Rattle.ncl_diagram.proofs.diagram.DiagramSpace.mark.Goals as goal
 

@@ -1,9 +1,4 @@
-use Rattle.std.proofs.Common.{◌≡◌, true, false, [], ◌∷◌, subst}
-use Rattle.std.specs.Prelude.{IfOk, OnOk, IsErrOf}
-use Rattle.ncl_space.specs.declared.space.SpaceFault.TheVariants.{Full}
-use Rattle.ncl_space.specs.Functions.{rail_table}
-use Rattle.ncl_space.specs.Space.{Adds, Keeps, Makes, fits}
-use Rattle.ncl_diagram.specs.Diagram.{DiagramData, diagram_space}
+use Rattle.ncl_diagram.proofs.Terms.{Adds, DiagramData, Full, IfOk, IsErrOf, Keeps, Makes, OnOk, [], diagram_space, false, fits, rail_table, subst, true, ◌∷◌, ◌≡◌}
 use Rattle.ncl_diagram.proofs.DiagramLaws.{Keeps-grown, adds_by, fits_by, full_by, made_by, with_nodes}
 use Rattle.ncl_diagram.proofs.KeptLaws.{kept_grown}
 use Rattle.ncl_diagram.proofs.diagram.DiagramSpace.rail.Goals as goal

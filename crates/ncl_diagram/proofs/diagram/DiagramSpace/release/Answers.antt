@@ -1,10 +1,5 @@
-use Rattle.std.proofs.Common.{◌≤◌, List, length, sym, subst}
-use Rattle.ncl_space.specs.Space.{Releases}
-use Rattle.ncl_diagram.specs.declared.nodes.Node.{Node}
-use Rattle.ncl_diagram.specs.Diagram.{DiagramData, IsDiagram, diagram_space}
-use Rattle.ncl_space.proofs.CountedMarks.{from_nat_le}
+use Rattle.ncl_diagram.proofs.Terms.{AreKept, DiagramData, IsDiagram, List, Node, Releases, diagram_space, from_nat_le, length, subst, sym, ◌≤◌}
 use Rattle.ncl_diagram.proofs.DiagramLaws.{IsDiagram-take, Releases-diagram, with_nodes}
-use Rattle.ncl_diagram.specs.Kept.{AreKept}
 use Rattle.ncl_diagram.proofs.KeptLaws.{kept_taken}
 use Rattle.ncl_diagram.proofs.diagram.DiagramSpace.release.Goals as goal
 

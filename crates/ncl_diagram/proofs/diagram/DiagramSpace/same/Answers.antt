@@ -1,8 +1,4 @@
-use Rattle.std.proofs.Common.{◌≡◌, ℕ, nat_eq, IsTrue, sym, subst, ap, arith}
-use Rattle.std.proofs.lemmas.Bool.Decides.{nat_tests}
-use Rattle.ncl_space.specs.declared.space.Ref.{Ref}
-use Rattle.ncl_diagram.specs.Diagram.{DiagramData, IsDiagram}
-use Rattle.ncl_diagram.specs.Nodes.{table_from}
+use Rattle.ncl_diagram.proofs.Terms.{DiagramData, IsDiagram, IsTrue, Ref, ap, arith, nat_eq, nat_tests, subst, sym, table_from, ℕ, ◌≡◌}
 use Rattle.ncl_diagram.proofs.DiagramLaws.{one_ref}
 use Rattle.ncl_diagram.proofs.diagram.DiagramSpace.same.Goals as goal
 

@@ -1,5 +1,4 @@
-use Rattle.std.proofs.Common.{subst}
-use Rattle.ncl_diagram.specs.Diagram.{DiagramData, IsDiagram}
+use Rattle.ncl_diagram.proofs.Terms.{DiagramData, IsDiagram, subst}
 use Rattle.ncl_diagram.proofs.DiagramLaws.{IsSpace-diagram}
 use Rattle.ncl_diagram.proofs.diagram.DiagramSpace.width.Goals as goal
 

@@ -1,7 +1,4 @@
-use Rattle.std.proofs.Common.{List, length, sym, ◌∙◌, subst}
-use Rattle.ncl_diagram.specs.declared.keys.Bucket.{Bucket}
-use Rattle.ncl_diagram.specs.declared.memo.Key.{Key}
-use Rattle.ncl_diagram.specs.Keys.{AreWithin}
+use Rattle.ncl_diagram.proofs.Terms.{AreWithin, Bucket, Key, List, length, subst, sym, ◌∙◌}
 use Rattle.ncl_diagram.proofs.KeyLaws.{found_end, free_end}
 use Rattle.ncl_diagram.proofs.MemoLaws.{short}
 use Rattle.ncl_diagram.proofs.keys.Keys.find_or_put.Goals as goal

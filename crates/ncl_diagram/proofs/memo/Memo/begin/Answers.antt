@@ -1,7 +1,4 @@
-use Rattle.std.proofs.Common.{◌≡◌, ◌<◌, length, List, Option, arith, Some, inl, inr, slice_get, refl, sym, ◌∙◌, ap}
-use Rattle.std.proofs.lemmas.Option.{slice_get-get_or}
-use Rattle.ncl_space.specs.declared.space.Ref.{Ref}
-use Rattle.ncl_diagram.specs.declared.memo.Key.{Key}
+use Rattle.ncl_diagram.proofs.Terms.{Key, List, Option, Ref, Some, ap, arith, inl, inr, length, refl, slice_get, slice_get-get_or, sym, ◌<◌, ◌∙◌, ◌≡◌}
 use Rattle.ncl_diagram.proofs.MemoLaws.{none_put, put_last}
 use Rattle.ncl_diagram.proofs.memo.Memo.begin.Goals as goal
 

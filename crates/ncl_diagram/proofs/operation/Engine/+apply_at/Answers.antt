@@ -1,12 +1,4 @@
-use Rattle.std.proofs.Common.{◌≡◌, ◌<◌, sym, ◌∙◌, ap, List, subst, arith}
-use Rattle.std.specs.Prelude.{Result, Ok, Err, IsErrAnd, IsErrOf}
-use Rattle.ncl_space.specs.declared.space.Ref.{Ref}
-use Rattle.ncl_space.specs.declared.space.SpaceFault.{SpaceFault}
-use Rattle.ncl_space.specs.declared.space.SpaceFault.TheVariants.{Full}
-use Rattle.ncl_diagram.specs.declared.nodes.Node.{Node}
-use Rattle.ncl_diagram.specs.declared.operation.Engine.{Engine}
-use Rattle.ncl_diagram.specs.Memo.{places, size_of}
-use Rattle.ncl_diagram.specs.Running.{FindsFull, Runs}
+use Rattle.ncl_diagram.proofs.Terms.{Engine, Err, FindsFull, Full, IsErrAnd, IsErrOf, List, Node, Ok, Ref, Result, Runs, SpaceFault, ap, arith, places, size_of, subst, sym, ◌<◌, ◌∙◌, ◌≡◌}
 use Rattle.ncl_diagram.proofs.RunLaws.{began, after_low, after_high, ran_itself, found_itself, found_kept, ran_begun, found_known, may_low, ran_low, full_low, may_high, ran_high, full_high, low_later, high_later, full_joined, at_within, ran_joined, found_joined}
 use Rattle.ncl_diagram.proofs.Stops.{stop_answer}
 use Rattle.ncl_diagram.proofs.operation.Engine.+apply_at.Goals as goal

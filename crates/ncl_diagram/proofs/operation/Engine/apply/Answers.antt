@@ -1,7 +1,4 @@
-use Rattle.std.proofs.Common.{List, length, ap, arith, subst}
-use Rattle.ncl_diagram.specs.declared.memo.Key.{Key}
-use Rattle.ncl_diagram.specs.Memo.{places}
-use Rattle.ncl_diagram.specs.Steps.{AddsKeys}
+use Rattle.ncl_diagram.proofs.Terms.{AddsKeys, Key, List, ap, arith, length, places, subst}
 use Rattle.ncl_diagram.proofs.Counting.{few_keys, product_grown}
 use Rattle.ncl_diagram.proofs.Growth.{there_grown}
 use Rattle.ncl_diagram.proofs.RunLaws.{leaves_run, may_start, sound_left}

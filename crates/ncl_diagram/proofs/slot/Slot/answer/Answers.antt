@@ -1,5 +1,4 @@
-use Rattle.std.proofs.Common.{◌∙◌, ◌+◌, ◌*◌, ◌/◌, ℕ, sym, ap}
-use Rattle.std.proofs.lemmas.Nat.{and_mask, shr_split}
+use Rattle.ncl_diagram.proofs.Terms.{and_mask, ap, shr_split, sym, ℕ, ◌*◌, ◌+◌, ◌/◌, ◌∙◌}
 use Rattle.ncl_diagram.proofs.Packing.{says}
 use Rattle.ncl_diagram.proofs.slot.Slot.answer.Goals as goal
 

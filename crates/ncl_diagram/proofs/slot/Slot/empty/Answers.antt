@@ -1,5 +1,4 @@
-use Rattle.std.proofs.Common.{ap}
-use Rattle.ncl_diagram.specs.Slot.{first_word, second_word}
+use Rattle.ncl_diagram.proofs.Terms.{ap, first_word, second_word}
 use Rattle.ncl_diagram.proofs.Packing.{none_at_zero}
 use Rattle.ncl_diagram.proofs.slot.Slot.empty.Goals as goal
 

@@ -1,7 +1,4 @@
-use Rattle.std.proofs.Common.{◌≡◌, ℕ, [], ◌∷◌, nat_eq, bit_and, ap, ◌∙◌, arith}
-use Rattle.std.specs.Int.{bit_at}
-use Rattle.std.proofs.lemmas.Nat.Bits.{and_pow}
-use Rattle.ncl_gates.specs.Gate.{set_of}
+use Rattle.ncl_gates.proofs.Terms.{[], and_pow, ap, arith, bit_and, bit_at, nat_eq, set_of, ℕ, ◌∙◌, ◌∷◌, ◌≡◌}
 use Rattle.ncl_gates.proofs.GateLaws.{set_of-four}
 use Rattle.ncl_gates.proofs.kind.Kind.set.Goals as goal
 

@@ -1,5 +1,4 @@
-use Rattle.std.proofs.Common.{◌≡◌, vec_len}
-use Rattle.ncl_graph.specs.Ranks.{IsWhole}
+use Rattle.ncl_graph.proofs.Terms.{IsWhole, vec_len, ◌≡◌}
 use Rattle.ncl_graph.proofs.components.Components.close.Given as goal
 
 abbrev pub invariant-loop-member : goal.invariant-loop-member

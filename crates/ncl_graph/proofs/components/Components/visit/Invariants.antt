@@ -1,5 +1,4 @@
-use Rattle.std.proofs.Common.{◌≡◌, length}
-use Rattle.ncl_graph.specs.Ranks.{IsWhole, work}
+use Rattle.ncl_graph.proofs.Terms.{IsWhole, length, work, ◌≡◌}
 use Rattle.ncl_graph.proofs.components.Components.visit.Given as goal
 
 abbrev pub invariant-loop-place : goal.invariant-loop-place

@@ -1,6 +1,4 @@
-use Rattle.std.proofs.Common.{◌≡◌, ◌≢◌, ℕ, ◌<◌, []}
-use Rattle.ncl_graph.specs.declared.mark.Mark.TheVariants.{New}
-use Rattle.ncl_graph.specs.Search.{Stands, mark_at}
+use Rattle.ncl_graph.proofs.Terms.{New, Stands, [], mark_at, ℕ, ◌<◌, ◌≡◌, ◌≢◌}
 use Rattle.ncl_graph.proofs.graph.Graph.order.Given as goal
 
 abbrev pub invariant-loop-place : goal.invariant-loop-place

@@ -1,5 +1,4 @@
-use Rattle.std.proofs.Common.{take}
-use Rattle.ncl_graph.specs.Reach.{Reaches}
+use Rattle.ncl_graph.proofs.Terms.{Reaches, take}
 use Rattle.ncl_graph.proofs.reach.Reach.expand.Given as goal
 
 abbrev pub invariant-loop-next : goal.invariant-loop-next

@@ -1,5 +1,4 @@
-use Rattle.std.proofs.Common.{◌∙◌, sym, false}
-use Rattle.std.proofs.lemmas.List.{get_or_read}
+use Rattle.ncl_graph.proofs.Terms.{false, get_or_read, sym, ◌∙◌}
 use Rattle.ncl_graph.proofs.Reaching.{reaches_one}
 use Rattle.ncl_graph.proofs.reach.Reach.reach.Goals as goal
 

@@ -1,6 +1,4 @@
-use Rattle.std.proofs.Common.{◌<◌, [], ◌∷◌, ◌++◌, length, get_or, arith}
-use Rattle.std.proofs.lemmas.List.{length_push}
-use Rattle.ncl_graph.specs.declared.mark.Mark.TheVariants.{Open}
+use Rattle.ncl_graph.proofs.Terms.{Open, [], arith, get_or, length, length_push, ◌++◌, ◌<◌, ◌∷◌}
 use Rattle.ncl_graph.proofs.Searching.{last_inside, step_closes, step_opens, step_fewer, step_cycle, no_more_new, StaysMet-set}
 use Rattle.ncl_graph.proofs.search.Search.step.Goals as goal
 

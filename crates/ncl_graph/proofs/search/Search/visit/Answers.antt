@@ -1,5 +1,4 @@
-use Rattle.std.proofs.Common.{arith}
-use Rattle.ncl_graph.specs.declared.mark.Mark.TheVariants.{Open}
+use Rattle.ncl_graph.proofs.Terms.{Open, arith}
 use Rattle.ncl_graph.proofs.Searching.{roots, StaysMet-set, now_met}
 use Rattle.ncl_graph.proofs.search.Search.visit.Goals as goal
 

@@ -1,6 +1,5 @@
-use Rattle.std.proofs.Common.{◌≢◌}
-use Rattle.ncl_graph.specs.declared.mark.Mark.TheVariants.{New}
-use Rattle.ncl_graph.specs.Search.{Stands, StaysMet, mark_at, work}
+use Rattle.ncl_graph.proofs.Terms.{New, Stands, StaysMet, mark_at, ◌≢◌}
+use Rattle.ncl_graph.specs.Search.{work}
 use Rattle.ncl_graph.proofs.search.Search.visit.Given as goal
 
 abbrev pub invariant-loop-place : goal.invariant-loop-place

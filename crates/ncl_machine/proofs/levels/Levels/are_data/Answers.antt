@@ -1,9 +1,4 @@
-use Rattle.std.proofs.Common.{◌≡◌, sym, ap, ◌∙◌, subst}
-use Rattle.std.specs.Prelude.{nat_eq}
-use Rattle.ncl_faults.specs.Faults.{has_data}
-use Rattle.ncl_machine.specs.Held.{net_values}
-use Rattle.ncl_machine.specs.Steps.{is_data}
-use Rattle.ncl_machine.specs.Tallies.{LevelsData, count_of}
+use Rattle.ncl_machine.proofs.Terms.{LevelsData, ap, count_of, has_data, is_data, nat_eq, net_values, subst, sym, ◌∙◌, ◌≡◌}
 use Rattle.ncl_machine.proofs.Counts.{count-all}
 use Rattle.ncl_machine.proofs.levels.Levels.are_data.Goals as goal
 

@@ -1,9 +1,4 @@
-use Rattle.std.proofs.Common.{◌≡◌, sym, ap, ◌∙◌, subst}
-use Rattle.std.specs.Prelude.{nat_eq}
-use Rattle.ncl_faults.specs.Faults.{has_data}
-use Rattle.ncl_machine.specs.Held.{net_values}
-use Rattle.ncl_machine.specs.Steps.{is_null}
-use Rattle.ncl_machine.specs.Tallies.{LevelsData}
+use Rattle.ncl_machine.proofs.Terms.{LevelsData, ap, has_data, is_null, nat_eq, net_values, subst, sym, ◌∙◌, ◌≡◌}
 use Rattle.ncl_machine.proofs.Counts.{count-none}
 use Rattle.ncl_machine.proofs.levels.Levels.are_null.Goals as goal
 

@@ -1,9 +1,4 @@
-use Rattle.std.proofs.Common.{◌≡◌, ℕ, ◌+◌, ◌<◌, ◌≤◌, Bool, true, false, not, length, set, List, Option, sym, ap, ◌∙◌, subst, arith}
-use Rattle.ncl_base.specs.declared.word.TheConstants.{MOST_BITS}
-use Rattle.ncl_netlist.specs.declared.ids.NetId.{NetId}
-use Rattle.ncl_faults.specs.Faults.{has_data}
-use Rattle.ncl_machine.specs.Held.{net_values}
-use Rattle.ncl_machine.specs.Tallies.{LevelsData, AreCovered, count_of, is_covered_by, mate_in}
+use Rattle.ncl_machine.proofs.Terms.{AreCovered, Bool, LevelsData, List, MOST_BITS, NetId, Option, ap, arith, count_of, false, has_data, is_covered_by, length, mate_in, net_values, not, set, subst, sym, true, ℕ, ◌+◌, ◌<◌, ◌∙◌, ◌≡◌, ◌≤◌}
 use Rattle.ncl_machine.proofs.Counts.{count-few}
 use Rattle.ncl_machine.proofs.Mates.{count-stays, count-more, count-less}
 use Rattle.ncl_machine.proofs.levels.Levels.covered_after.Goals as goal

@@ -1,11 +1,4 @@
-use Rattle.std.proofs.Common.{◌≡◌, ◌<◌, true, length, get_or, Option, None, Some, sym, ap, ◌∙◌, subst}
-use Rattle.std.proofs.lemmas.List.{get_or_default}
-use Rattle.std.proofs.lemmas.List.Elements.{All-contains}
-use Rattle.ncl_base.proofs.Members.{Contains-from_Member}
-use Rattle.ncl_netlist.specs.declared.ids.NetId.{NetId}
-use Rattle.ncl_shape.specs.Stage.{rail_nets}
-use Rattle.ncl_machine.specs.Held.{net_values}
-use Rattle.ncl_machine.specs.Tallies.{LevelsData, AreCovered, mate_in, is_covered_by}
+use Rattle.ncl_machine.proofs.Terms.{All-contains, AreCovered, Contains-from_Member, LevelsData, NetId, None, Option, Some, ap, get_or, get_or_default, is_covered_by, length, mate_in, net_values, rail_nets, subst, sym, true, ◌<◌, ◌∙◌, ◌≡◌}
 use Rattle.ncl_machine.proofs.Mates.{mate_in-within}
 use Rattle.ncl_machine.proofs.levels.Levels.is_covered_without.Goals as goal
 

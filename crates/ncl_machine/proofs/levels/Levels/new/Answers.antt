@@ -1,7 +1,4 @@
-use Rattle.std.proofs.Common.{Bool, List, sym, ap, ◌∙◌, subst}
-use Rattle.ncl_faults.specs.Faults.{has_data}
-use Rattle.ncl_machine.specs.Held.{net_values}
-use Rattle.ncl_machine.specs.Tallies.{AreCovered, count_of}
+use Rattle.ncl_machine.proofs.Terms.{AreCovered, Bool, List, ap, count_of, has_data, net_values, subst, sym, ◌∙◌}
 use Rattle.ncl_machine.proofs.levels.Levels.new.Goals as goal
 
 pub invariant_of-result : goal.invariant_of-result

@@ -1,9 +1,4 @@
-use Rattle.std.proofs.Common.{false, length, inl, inr, refl, ap, ◌∙◌, sym, arith}
-use Rattle.std.proofs.lemmas.Bool.{both_ways, cases_lt}
-use Rattle.std.proofs.lemmas.Option.{slice_get_past}
-use Rattle.ncl_netlist.specs.Netlist.{NetlistData}
-use Rattle.ncl_machine.specs.Held.{net_values}
-use Rattle.ncl_machine.specs.Steps.{is_excited}
+use Rattle.ncl_machine.proofs.Terms.{NetlistData, ap, arith, both_ways, cases_lt, false, inl, inr, is_excited, length, net_values, refl, slice_get_past, sym, ◌∙◌}
 use Rattle.ncl_machine.proofs.state.State.cells_rest.Goals as goal
 
 pub returns-then-is_excited : goal.returns-then-is_excited

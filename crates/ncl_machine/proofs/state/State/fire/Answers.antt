@@ -1,14 +1,4 @@
-use Rattle.std.proofs.Common.{◌≡◌, ℕ, ◌<◌, true, IfSome, length, sym, ap, ◌∙◌, subst}
-use Rattle.std.specs.Prelude.{Contains}
-use Rattle.ncl_netlist.specs.declared.ids.CellId.{CellId}
-use Rattle.ncl_shape.specs.declared.item.Item.{Item}
-use Rattle.ncl_shape.specs.declared.item.Item.TheVariants.{Cell as Fire, Raise, Lower}
-use Rattle.ncl_shape.specs.Pipeline.{PipelineData}
-use Rattle.ncl_shape.specs.Stage.{rail_nets}
-use Rattle.ncl_machine.specs.Steps.{enabled, step}
-use Rattle.ncl_machine.specs.OneChange.{net_of_step}
-use Rattle.ncl_machine.specs.Held.{Held, IsFor, meaning}
-use Rattle.ncl_machine.specs.Tallies.{current_word}
+use Rattle.ncl_machine.proofs.Terms.{CellId, Contains, Fire, Held, IfSome, IsFor, Item, Lower, PipelineData, Raise, ap, current_word, enabled, length, meaning, net_of_step, rail_nets, step, subst, sym, true, ℕ, ◌<◌, ◌∙◌, ◌≡◌}
 use Rattle.ncl_machine.proofs.ProgramEnds.{AreProgramEnds, program_ends}
 use Rattle.ncl_machine.proofs.ProgramSteps.{cell_apart, cell_done, flipped, raise_named, lower_named}
 use Rattle.ncl_machine.proofs.state.State.fire.Goals as goal

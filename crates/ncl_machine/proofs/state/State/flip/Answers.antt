@@ -1,9 +1,4 @@
-use Rattle.std.proofs.Common.{◌<◌, ◌≤◌, not, length, sym, subst}
-use Rattle.std.specs.Prelude.{Contains, vec_capacity}
-use Rattle.ncl_shape.specs.Stage.{rail_nets}
-use Rattle.ncl_machine.specs.Held.{Held}
-use Rattle.ncl_machine.specs.Tallies.{LevelsData, IsCounted}
-use Rattle.ncl_machine.specs.contracts.state.State.{the_view}
+use Rattle.ncl_machine.proofs.Terms.{Contains, Held, IsCounted, LevelsData, length, not, rail_nets, subst, sym, the_view, vec_capacity, ◌<◌, ◌≤◌}
 use Rattle.ncl_machine.proofs.SourceCounts.{apart-counted}
 use Rattle.ncl_machine.proofs.state.State.flip.Goals as goal
 

@@ -1,12 +1,4 @@
-use Rattle.std.proofs.Common.{◌≡◌, ◌≢◌, ◌+◌, ◌<◌, ◌≤◌, List, length, sym, ap, ◌∙◌, subst, arith}
-use Rattle.std.specs.Prelude.{All, AllPairs, vec_capacity}
-use Rattle.ncl_base.specs.declared.word.TheConstants.{MOST_BITS}
-use Rattle.ncl_shape.specs.declared.rails.Rails.{Rails}
-use Rattle.ncl_shape.specs.Stage.{rail_nets}
-use Rattle.ncl_shape.specs.Held.{data_banks}
-use Rattle.ncl_shape.proofs.BankCounts.{data_banks-le}
-use Rattle.ncl_machine.specs.Held.{Held}
-use Rattle.ncl_machine.specs.Tallies.{IsCounted}
+use Rattle.ncl_machine.proofs.Terms.{All, AllPairs, Held, IsCounted, List, MOST_BITS, Rails, ap, arith, data_banks, data_banks-le, length, rail_nets, subst, sym, vec_capacity, ◌+◌, ◌<◌, ◌∙◌, ◌≡◌, ◌≢◌, ◌≤◌}
 use Rattle.ncl_machine.proofs.ProgramEnds.{program_ends}
 use Rattle.ncl_machine.proofs.SourceStart.{start_same, start_counted}
 use Rattle.ncl_machine.proofs.state.State.new.Goals as goal

@@ -1,8 +1,4 @@
-use Rattle.std.proofs.Common.{◌≡◌, ap, ◌∙◌}
-use Rattle.std.proofs.lemmas.List.{take_all}
-use Rattle.ncl_gates.specs.Cell.{next_of_cell}
-use Rattle.ncl_shape.specs.Closure.{pin_values}
-use Rattle.ncl_machine.specs.Held.{net_values}
+use Rattle.ncl_machine.proofs.Terms.{ap, net_values, next_of_cell, pin_values, take_all, ◌∙◌, ◌≡◌}
 use Rattle.ncl_machine.proofs.state.State.next.Goals as goal
 
 pub returns : goal.returns

@@ -1,6 +1,4 @@
-use Rattle.std.proofs.Common.{◌≡◌, take, map}
-use Rattle.ncl_netlist.specs.declared.ids.NetId.{NetId}
-use Rattle.ncl_machine.specs.Held.{net_values}
+use Rattle.ncl_machine.proofs.Terms.{NetId, map, net_values, take, ◌≡◌}
 use Rattle.ncl_machine.proofs.state.State.next.Given as goal
 
 abbrev pub invariant-loop-net : goal.invariant-loop-net

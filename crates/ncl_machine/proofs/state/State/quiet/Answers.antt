@@ -1,12 +1,4 @@
-use Rattle.std.proofs.Common.{◌≡◌, ℕ, false, refl}
-use Rattle.std.proofs.lemmas.Bool.{both_ways}
-use Rattle.ncl_netlist.specs.declared.ids.CellId.{CellId}
-use Rattle.ncl_shape.specs.declared.item.Item.TheVariants.{Cell as Fire, Raise, Lower, Take, Ready}
-use Rattle.ncl_shape.specs.Pipeline.{PipelineData}
-use Rattle.ncl_machine.specs.State.{State}
-use Rattle.ncl_machine.specs.Held.{meaning}
-use Rattle.ncl_machine.specs.Run.{IsQuiet}
-use Rattle.ncl_machine.specs.Steps.{enabled}
+use Rattle.ncl_machine.proofs.Terms.{CellId, Fire, IsQuiet, Lower, PipelineData, Raise, Ready, State, Take, both_ways, enabled, false, meaning, refl, ℕ, ◌≡◌}
 use Rattle.ncl_machine.proofs.state.State.quiet.Goals as goal
 
 -- the cells, the source and the sink are all that there is

@@ -1,16 +1,4 @@
-use Rattle.std.proofs.Common.{◌≡◌, ℕ, ◌<◌, List, Bool, false, length, get_or, Some, refl, sym, ap, ◌∙◌, subst, arith}
-use Rattle.std.specs.Prelude.{slice_get}
-use Rattle.std.proofs.lemmas.List.{get_or_default}
-use Rattle.std.proofs.lemmas.List.Elements.{All-contains}
-use Rattle.std.proofs.lemmas.Option.{slice_get_read}
-use Rattle.ncl_base.proofs.Members.{Contains-from_Member, Contains-from_slice_get, Member-from_Contains}
-use Rattle.ncl_shape.specs.declared.rails.Rails.{Rails}
-use Rattle.ncl_shape.specs.Stage.{rail_of, rail_nets}
-use Rattle.ncl_cell_roles.specs.Layout.{no_rails}
-use Rattle.ncl_machine.specs.Held.{Held}
-use Rattle.ncl_machine.specs.Steps.{rails_of_word}
-use Rattle.ncl_machine.specs.Tallies.{IsCounted, current_word}
-use Rattle.ncl_machine.specs.contracts.state.State.{the_view}
+use Rattle.ncl_machine.proofs.Terms.{All-contains, Bool, Contains-from_Member, Contains-from_slice_get, Held, IsCounted, List, Member-from_Contains, Rails, Some, ap, arith, current_word, false, get_or, get_or_default, length, no_rails, rail_nets, rail_of, rails_of_word, refl, slice_get, slice_get_read, subst, sym, the_view, ℕ, ◌<◌, ◌∙◌, ◌≡◌}
 use Rattle.ncl_machine.proofs.NamedRails.{named-get, bit_at}
 use Rattle.ncl_machine.proofs.SourceRails.{current-within}
 use Rattle.ncl_machine.proofs.SourceCounts.{wide}

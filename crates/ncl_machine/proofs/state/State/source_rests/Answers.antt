@@ -1,12 +1,4 @@
-use Rattle.std.proofs.Common.{◌≡◌, ℕ, ◌≤◌, Bool, true, false, not, ◌&&◌, length, List, Option, None, Some, inl, inr, refl, ap, sym, subst, arith}
-use Rattle.std.specs.Prelude.{slice_get}
-use Rattle.std.proofs.lemmas.Bool.{and_right, cases_lt}
-use Rattle.ncl_shape.specs.declared.rails.Rails.{Rails}
-use Rattle.ncl_shape.specs.declared.item.Item.TheVariants.{Raise, Lower}
-use Rattle.ncl_shape.specs.Pipeline.{PipelineData}
-use Rattle.ncl_machine.specs.State.{State}
-use Rattle.ncl_machine.specs.Held.{Held, meaning}
-use Rattle.ncl_machine.specs.Steps.{enabled, has_value, rails_of_word}
+use Rattle.ncl_machine.proofs.Terms.{Bool, Held, List, Lower, None, Option, PipelineData, Rails, Raise, Some, State, and_right, ap, arith, cases_lt, enabled, false, has_value, inl, inr, length, meaning, not, rails_of_word, refl, slice_get, subst, sym, true, ℕ, ◌&&◌, ◌≡◌, ◌≤◌}
 use Rattle.ncl_machine.proofs.NamedRails.{named-past}
 use Rattle.ncl_machine.proofs.state.State.source_rests.Goals as goal
 

@@ -1,8 +1,4 @@
-use Rattle.std.proofs.Common.{◌≤◌, false, sym, subst, arith}
-use Rattle.std.specs.Prelude.{vec_capacity}
-use Rattle.ncl_machine.specs.Held.{Held}
-use Rattle.ncl_machine.specs.Tallies.{LevelsData, IsCounted}
-use Rattle.ncl_machine.specs.contracts.state.State.{the_view}
+use Rattle.ncl_machine.proofs.Terms.{Held, IsCounted, LevelsData, arith, false, subst, sym, the_view, vec_capacity, ◌≤◌}
 use Rattle.ncl_machine.proofs.SourceCounts.{apart-counted}
 use Rattle.ncl_machine.proofs.state.State.take.Goals as goal
 

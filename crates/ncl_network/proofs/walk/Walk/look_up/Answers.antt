@@ -1,8 +1,4 @@
-use Rattle.std.proofs.Common.{◌≡◌, ◌++◌, [], ◌∷◌, sym, ◌∙◌, subst, arith}
-use Rattle.std.specs.Prelude.{IsSome}
-use Rattle.std.specs.Ordering.{nat_cmp}
-use Rattle.std.specs.BTreeMap.{get}
-use Rattle.std.proofs.lemmas.Grind.{common_steps}
+use Rattle.ncl_network.proofs.Terms.{IsSome, [], arith, common_steps, get, nat_cmp, subst, sym, ◌++◌, ◌∙◌, ◌∷◌, ◌≡◌}
 use Rattle.ncl_network.proofs.Walking.{found_more}
 use Rattle.ncl_network.proofs.walk.Walk.look_up.Goals as goal
 

@@ -1,6 +1,4 @@
-use Rattle.std.proofs.Common.{◌≡◌, map, take, Some}
-use Rattle.std.specs.Ordering.{nat_cmp}
-use Rattle.std.specs.BTreeMap.{get}
+use Rattle.ncl_network.proofs.Terms.{Some, get, map, nat_cmp, take, ◌≡◌}
 use Rattle.ncl_network.proofs.walk.Walk.look_up.Given as goal
 
 abbrev pub invariant-loop-name : goal.invariant-loop-name

@@ -1,12 +1,4 @@
-use Rattle.std.proofs.Common.{◌≡◌, ◌≤◌, ◌++◌, [], ◌∷◌, map, Some, sym, ap, ◌∙◌, subst}
-use Rattle.std.specs.Prelude.{All}
-use Rattle.std.specs.Ordering.{nat_cmp}
-use Rattle.std.specs.BTreeMap.{get}
-use Rattle.ncl_blif.specs.Meaning.{cover_value}
-use Rattle.ncl_blif.specs.Model.{weight_of_rows}
-use Rattle.ncl_network.specs.Network.{signal_value, IsSource}
-use Rattle.ncl_network.specs.Fold.{weight_of_folded}
-use Rattle.ncl_network.specs.Walk.{IsWalked}
+use Rattle.ncl_network.proofs.Terms.{All, IsSource, IsWalked, Some, [], ap, cover_value, get, map, nat_cmp, signal_value, subst, sym, weight_of_folded, weight_of_rows, ◌++◌, ◌∙◌, ◌∷◌, ◌≡◌, ◌≤◌}
 use Rattle.ncl_network.proofs.Walking.{FoldsInto, IsWalked-more}
 use Rattle.ncl_network.proofs.walk.Walk.take_cover.Goals as goal
 

@@ -1,5 +1,4 @@
-use Rattle.std.proofs.Common.{length, arith}
-use Rattle.std.proofs.lemmas.Nat.{one_shl}
+use Rattle.ncl_rails.proofs.Terms.{arith, length, one_shl}
 use Rattle.ncl_rails.proofs.Holding.{some_number}
 use Rattle.ncl_rails.proofs.held.Claim.is_true.Goals as goal
 

@@ -1,6 +1,4 @@
-use Rattle.std.proofs.Common.{ℕ, ◌<◌, Bool}
-use Rattle.ncl_network.specs.declared.network.SignalSource.{SignalSource}
-use Rattle.ncl_rails.specs.Waiting.{HasBits, IsAwaited, waits_of}
+use Rattle.ncl_rails.proofs.Terms.{Bool, HasBits, IsAwaited, SignalSource, waits_of, ℕ, ◌<◌}
 use Rattle.ncl_rails.proofs.held.Claim.is_true.Given as goal
 
 abbrev pub invariant-loop-number : goal.invariant-loop-number

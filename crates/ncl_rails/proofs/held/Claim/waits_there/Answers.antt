@@ -1,5 +1,4 @@
-use Rattle.std.proofs.Common.{sym, ap, ◌∙◌, arith}
-use Rattle.ncl_network.specs.declared.network.Node.{Node}
+use Rattle.ncl_rails.proofs.Terms.{Node, ap, arith, sym, ◌∙◌}
 use Rattle.ncl_rails.proofs.Holding.{IsAwaited-by}
 use Rattle.ncl_rails.proofs.held.Claim.waits_there.Goals as goal
 

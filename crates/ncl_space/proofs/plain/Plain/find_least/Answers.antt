@@ -1,7 +1,4 @@
-use Rattle.std.proofs.Common.{◌<◌, ◌+◌, ◌^◌, ◌∙◌, List, Bool, false, Some, length, slice_index_or, sym, ap, arith}
-use Rattle.ncl_space.specs.Bits.{word_of}
-use Rattle.ncl_space.specs.Functions.{is_value}
-use Rattle.ncl_space.specs.Plain.{PlainData, table_at}
+use Rattle.ncl_space.proofs.Terms.{Bool, List, PlainData, Some, ap, arith, false, is_value, length, slice_index_or, sym, table_at, word_of, ◌+◌, ◌<◌, ◌^◌, ◌∙◌}
 use Rattle.ncl_space.proofs.BitLaws.{find-first, find-nowhere}
 use Rattle.ncl_space.proofs.CountedMarks.{from_nat_lt}
 use Rattle.ncl_space.proofs.PlainLaws.{IsPlain-view, length-table_at}

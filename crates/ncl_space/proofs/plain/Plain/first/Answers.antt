@@ -1,10 +1,4 @@
-use Rattle.std.proofs.Common.{◌≡◌, ◌<◌, ◌+◌, ◌-◌, ◌*◌, ◌/◌, ◌^◌, ◌∙◌, ◌&&◌, inl, inr, ℕ, List, Bool, false, nat_eq, nat_lt, length, slice_index_or, sym, ap, arith}
-use Rattle.std.specs.Int.{w64, trailing_zeros}
-use Rattle.std.proofs.lemmas.Bool.{and_parts, cases_lt, lt-ltb, ltb-true}
-use Rattle.std.proofs.lemmas.Nat.Bits.{bit_at-trailing_zeros}
-use Rattle.ncl_gates.specs.Bits.{is_set}
-use Rattle.ncl_space.specs.Functions.{is_value}
-use Rattle.ncl_space.specs.Plain.{PlainData, IsFirst, stride_of, table_at}
+use Rattle.ncl_space.proofs.Terms.{Bool, IsFirst, List, PlainData, and_parts, ap, arith, bit_at-trailing_zeros, cases_lt, false, inl, inr, is_set, is_value, length, lt-ltb, ltb-true, nat_eq, nat_lt, slice_index_or, stride_of, sym, table_at, trailing_zeros, w64, ℕ, ◌&&◌, ◌*◌, ◌+◌, ◌-◌, ◌/◌, ◌<◌, ◌^◌, ◌∙◌, ◌≡◌}
 use Rattle.ncl_space.proofs.BitLaws.{is_set-past}
 use Rattle.ncl_space.proofs.RowLaws.{values_below}
 use Rattle.ncl_space.proofs.CountedMarks.{from_nat_lt}

@@ -1,6 +1,4 @@
-use Rattle.std.proofs.Common.{◌≡◌, ℕ, ◌*◌, ◌<◌, false, length, slice_index_or}
-use Rattle.ncl_space.specs.Functions.{is_value}
-use Rattle.ncl_space.specs.Plain.{plain_space}
+use Rattle.ncl_space.proofs.Terms.{false, is_value, length, plain_space, slice_index_or, ℕ, ◌*◌, ◌<◌, ◌≡◌}
 use Rattle.ncl_space.proofs.plain.Plain.first.Given as goal
 
 abbrev pub invariant-loop-j : goal.invariant-loop-j

@@ -1,8 +1,4 @@
-use Rattle.std.proofs.Common.{◌≡◌, ◌<◌, ◌+◌, ◌*◌, ◌∙◌, ℕ, List, Bool, false, map, slice_index_or, sym, ap, subst, arith}
-use Rattle.ncl_space.specs.declared.space.Ref.{Ref}
-use Rattle.ncl_gates.specs.Bits.{is_set}
-use Rattle.ncl_space.specs.Functions.{constant_table, gate_table}
-use Rattle.ncl_space.specs.Plain.{PlainData, plain_space}
+use Rattle.ncl_space.proofs.Terms.{Bool, List, PlainData, Ref, ap, arith, constant_table, false, gate_table, is_set, map, plain_space, slice_index_or, subst, sym, ℕ, ◌*◌, ◌+◌, ◌<◌, ◌∙◌, ◌≡◌}
 use Rattle.ncl_space.proofs.RowLaws.{FillsTo, FillsTo-push, index-gate, stride_of-few}
 use Rattle.ncl_space.proofs.PlainLaws.{IsPlain-view, index-pins, long_pins}
 use Rattle.ncl_space.proofs.plain.Plain.gate_row.Goals as goal

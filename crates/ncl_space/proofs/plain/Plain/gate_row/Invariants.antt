@@ -1,6 +1,4 @@
-use Rattle.std.proofs.Common.{map}
-use Rattle.ncl_space.specs.Functions.{gate_table}
-use Rattle.ncl_space.specs.Plain.{plain_space}
+use Rattle.ncl_space.proofs.Terms.{gate_table, map, plain_space}
 use Rattle.ncl_space.proofs.RowLaws.{FillsTo}
 use Rattle.ncl_space.proofs.plain.Plain.gate_row.Given as goal
 

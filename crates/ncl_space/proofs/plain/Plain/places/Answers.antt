@@ -1,7 +1,4 @@
-use Rattle.std.proofs.Common.{◌≡◌, ◌+◌, ◌*◌, ◌^◌, ◌∙◌, ◌&&◌, ℕ, List, Bool, true, false, not, nat_lt, length, slice_index_or, sym, ap, refl}
-use Rattle.ncl_space.specs.Functions.{is_value}
-use Rattle.ncl_space.specs.Plain.{PlainData, table_at}
-use Rattle.ncl_gates.proofs.BitLaws.{is_set-and}
+use Rattle.ncl_space.proofs.Terms.{Bool, List, PlainData, ap, false, is_set-and, is_value, length, nat_lt, not, refl, slice_index_or, sym, table_at, true, ℕ, ◌&&◌, ◌*◌, ◌+◌, ◌^◌, ◌∙◌, ◌≡◌}
 use Rattle.ncl_space.proofs.BitLaws.{is_set-not}
 use Rattle.ncl_space.proofs.RowLaws.{ones_at}
 use Rattle.ncl_space.proofs.CountedMarks.{from_nat_lt}

@@ -1,5 +1,4 @@
-use Rattle.std.proofs.Common.{◌≤◌, ◌+◌, ◌^◌, ◌∙◌, ℕ, List, refl, sym, subst, arith}
-use Rattle.ncl_space.specs.Plain.{AreTables, IsRow, PlainData, row_table, tables_in}
+use Rattle.ncl_space.proofs.Terms.{AreTables, IsRow, List, PlainData, arith, refl, row_table, subst, sym, tables_in, ℕ, ◌+◌, ◌^◌, ◌∙◌, ◌≤◌}
 use Rattle.ncl_space.proofs.RowLaws.{AreTables-push, length-row_table}
 use Rattle.ncl_space.proofs.PlainLaws.{IsPlain-view, Keeps-put, Keeps-same, length-view, pushed-view}
 use Rattle.ncl_space.proofs.plain.Plain.push_row.Goals as goal

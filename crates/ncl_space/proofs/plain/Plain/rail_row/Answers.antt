@@ -1,8 +1,4 @@
-use Rattle.std.proofs.Common.{◌≡◌, ◌<◌, ◌+◌, ◌-◌, ◌*◌, ◌^◌, ◌∙◌, ◌&&◌, ℕ, List, nat_lt, sym, ap, subst, arith}
-use Rattle.ncl_gates.specs.Bits.{is_set}
-use Rattle.ncl_space.specs.Functions.{is_value, rail_table}
-use Rattle.ncl_space.specs.Plain.{PlainData, stride_of}
-use Rattle.ncl_gates.proofs.BitLaws.{is_set-and}
+use Rattle.ncl_space.proofs.Terms.{List, PlainData, ap, arith, is_set, is_set-and, is_value, nat_lt, rail_table, stride_of, subst, sym, ℕ, ◌&&◌, ◌*◌, ◌+◌, ◌-◌, ◌<◌, ◌^◌, ◌∙◌, ◌≡◌}
 use Rattle.ncl_space.proofs.BitLaws.{is_set-not}
 use Rattle.ncl_space.proofs.RowLaws.{FillsTo, FillsTo-push, rail_bit, stride_of-few}
 use Rattle.ncl_space.proofs.plain.Plain.rail_row.Goals as goal

@@ -1,7 +1,4 @@
-use Rattle.std.proofs.Common.{◌≤◌, ◌<◌, ◌+◌, ◌-◌, ◌*◌, ◌^◌, ◌∙◌, ℕ, false, nat_lt, length, slice_index_or, sym, ap, subst, arith}
-use Rattle.std.proofs.lemmas.List.{get_or_default}
-use Rattle.ncl_gates.specs.Bits.{is_set}
-use Rattle.ncl_space.specs.Plain.{PlainData, stride_of, table_at}
+use Rattle.ncl_space.proofs.Terms.{PlainData, ap, arith, false, get_or_default, is_set, length, nat_lt, slice_index_or, stride_of, subst, sym, table_at, ℕ, ◌*◌, ◌+◌, ◌-◌, ◌<◌, ◌^◌, ◌∙◌, ◌≤◌}
 use Rattle.ncl_space.proofs.BitLaws.{is_set-past}
 use Rattle.ncl_space.proofs.RowLaws.{index-zero, index-one}
 use Rattle.ncl_space.proofs.CountedMarks.{from_nat_lt}

@@ -1,7 +1,4 @@
-use Rattle.std.proofs.Common.{List, ℕ, map, sym, subst, ap, ◌∙◌}
-use Rattle.ncl_gates.specs.Gate.{set_of}
-use Rattle.ncl_space.specs.Functions.{at, gate_table}
-use Rattle.ncl_space.specs.Plain.{IsRow, plain_space, row_table}
+use Rattle.ncl_space.proofs.Terms.{IsRow, List, ap, at, gate_table, map, plain_space, row_table, set_of, subst, sym, ℕ, ◌∙◌}
 use Rattle.ncl_space.proofs.TableLaws.{length-table_of}
 use Rattle.ncl_space.proofs.RowLaws.{IsRow-holds, row_table-holds}
 use Rattle.ncl_space.proofs.PlainLaws.{adds_by_push, made_by_push}

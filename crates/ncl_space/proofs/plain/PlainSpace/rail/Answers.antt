@@ -1,6 +1,4 @@
-use Rattle.std.proofs.Common.{List, ℕ, false, slice_index_or, sym, subst, ap, ◌∙◌}
-use Rattle.ncl_space.specs.Functions.{is_value, rail_table}
-use Rattle.ncl_space.specs.Plain.{IsRow, row_table}
+use Rattle.ncl_space.proofs.Terms.{IsRow, List, ap, false, is_value, rail_table, row_table, slice_index_or, subst, sym, ℕ, ◌∙◌}
 use Rattle.ncl_space.proofs.TableLaws.{length-table_of}
 use Rattle.ncl_space.proofs.RowLaws.{IsRow-holds, row_table-holds}
 use Rattle.ncl_space.proofs.PlainLaws.{adds_by_push, made_by_push}

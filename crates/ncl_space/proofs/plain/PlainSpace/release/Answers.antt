@@ -1,8 +1,4 @@
-use Rattle.std.proofs.Common.{◌≡◌, ◌≤◌, ◌*◌, ◌∙◌, ℕ, List, take, length, sym, ap, subst, arith}
-use Rattle.std.proofs.Math.Nat.{mul_comm}
-use Rattle.ncl_space.specs.Plain.{AreTables, PlainData, stride_of, tables_in, plain_space}
-use Rattle.ncl_space.specs.Space.{Releases}
-use Rattle.ncl_space.specs.declared.space.Mark.{Mark}
+use Rattle.ncl_space.proofs.Terms.{AreTables, List, Mark, PlainData, Releases, ap, arith, length, mul_comm, plain_space, stride_of, subst, sym, tables_in, take, ℕ, ◌*◌, ◌∙◌, ◌≡◌, ◌≤◌}
 use Rattle.ncl_space.proofs.RowLaws.{AreTables-take}
 use Rattle.ncl_space.proofs.CountedMarks.{from_nat_le}
 use Rattle.ncl_space.proofs.PlainLaws.{IsPlain-view, Releases-plain, length-view, released-view}

@@ -1,8 +1,4 @@
-use Rattle.std.proofs.Common.{◌≡◌, ◌<◌, ◌+◌, ◌-◌, ◌*◌, ◌/◌, inl, inr, ℕ, List, Bool, false, length, slice_index_or, sym, ap, ◌∙◌, refl, arith}
-use Rattle.std.proofs.lemmas.Bool.{cases_lt}
-use Rattle.std.proofs.lemmas.List.{ext_get_or}
-use Rattle.ncl_gates.specs.Bits.{is_set}
-use Rattle.ncl_space.specs.Plain.{PlainData, stride_of, table_at}
+use Rattle.ncl_space.proofs.Terms.{Bool, List, PlainData, ap, arith, cases_lt, ext_get_or, false, inl, inr, is_set, length, refl, slice_index_or, stride_of, sym, table_at, ℕ, ◌*◌, ◌+◌, ◌-◌, ◌/◌, ◌<◌, ◌∙◌, ◌≡◌}
 use Rattle.ncl_space.proofs.BitLaws.{same_from_is_set}
 use Rattle.ncl_space.proofs.RowLaws.{values_below}
 use Rattle.ncl_space.proofs.CountedMarks.{from_nat_lt}

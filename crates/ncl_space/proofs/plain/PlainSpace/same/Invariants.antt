@@ -1,5 +1,4 @@
-use Rattle.std.proofs.Common.{◌≡◌, ℕ, ◌*◌, ◌<◌, false, slice_index_or}
-use Rattle.ncl_space.specs.Plain.{plain_space}
+use Rattle.ncl_space.proofs.Terms.{false, plain_space, slice_index_or, ℕ, ◌*◌, ◌<◌, ◌≡◌}
 use Rattle.ncl_space.proofs.plain.PlainSpace.same.Given as goal
 
 abbrev pub invariant-loop-j : goal.invariant-loop-j

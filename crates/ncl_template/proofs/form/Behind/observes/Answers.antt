@@ -1,6 +1,4 @@
-use Rattle.std.proofs.Common.{◌≡◌, true, false, length, get_or, inl, inr, subst, arith}
-use Rattle.std.proofs.lemmas.Bool.{cases_lt}
-use Rattle.ncl_template.specs.Forms.{behind_bit}
+use Rattle.ncl_template.proofs.Terms.{arith, behind_bit, cases_lt, false, get_or, inl, inr, length, subst, true, ◌≡◌}
 use Rattle.ncl_template.proofs.form.Behind.observes.Goals as goal
 
 pub loop-low-preserved : goal.loop-low-preserved

@@ -1,5 +1,4 @@
-use Rattle.std.proofs.Common.{◌≡◌, ℕ, ◌<◌, true, false, length, get_or}
-use Rattle.ncl_template.specs.Forms.{behind_bit}
+use Rattle.ncl_template.proofs.Terms.{behind_bit, false, get_or, length, true, ℕ, ◌<◌, ◌≡◌}
 use Rattle.ncl_template.proofs.form.Behind.observes.Given as goal
 
 abbrev pub invariant-loop-low : goal.invariant-loop-low

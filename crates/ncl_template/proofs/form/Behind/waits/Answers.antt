@@ -1,7 +1,4 @@
-use Rattle.std.proofs.Common.{◌≡◌, true, false, length, inl, inr, subst, arith}
-use Rattle.std.proofs.lemmas.Bool.{cases_lt}
-use Rattle.ncl_template.specs.Waits.{waits_at}
-use Rattle.ncl_template.specs.Forms.{behind_bit}
+use Rattle.ncl_template.proofs.Terms.{arith, behind_bit, cases_lt, false, inl, inr, length, subst, true, waits_at, ◌≡◌}
 use Rattle.ncl_template.proofs.form.Behind.waits.Goals as goal
 
 pub loop-null-preserved : goal.loop-null-preserved

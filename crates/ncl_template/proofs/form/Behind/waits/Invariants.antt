@@ -1,6 +1,4 @@
-use Rattle.std.proofs.Common.{◌≡◌, ℕ, ◌<◌, true, false, length}
-use Rattle.ncl_template.specs.Waits.{waits_at}
-use Rattle.ncl_template.specs.Forms.{behind_bit}
+use Rattle.ncl_template.proofs.Terms.{behind_bit, false, length, true, waits_at, ℕ, ◌<◌, ◌≡◌}
 use Rattle.ncl_template.proofs.form.Behind.waits.Given as goal
 
 abbrev pub invariant-loop-null : goal.invariant-loop-null

@@ -1,5 +1,4 @@
-use Rattle.std.proofs.Common.{◌≡◌, map, take}
-use Rattle.ncl_template.specs.Joint.{joint_pin}
+use Rattle.ncl_template.proofs.Terms.{joint_pin, map, take, ◌≡◌}
 use Rattle.ncl_template.proofs.joint.Beside.is_set.Given as goal
 
 abbrev pub invariant-loop-pin : goal.invariant-loop-pin

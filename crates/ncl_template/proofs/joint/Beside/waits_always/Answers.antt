@@ -1,9 +1,4 @@
-use borrow.Author.Count.{below_more}
-use Rattle.std.proofs.Common.{take, subst, arith}
-use Rattle.ncl_decomp.specs.Words.{word_of}
-use Rattle.ncl_decomp.proofs.EachWord.{at_each_first}
-use Rattle.ncl_template.specs.Waits.{waits_once}
-use Rattle.ncl_template.specs.Joint.{WaitsJointly}
+use Rattle.ncl_template.proofs.Terms.{WaitsJointly, arith, at_each_first, below_more, subst, take, waits_once, word_of}
 use Rattle.ncl_template.proofs.joint.Beside.waits_always.Goals as goal
 
 pub loop-number-preserved : goal.loop-number-preserved

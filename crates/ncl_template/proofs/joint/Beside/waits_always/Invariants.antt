@@ -1,7 +1,4 @@
-use Rattle.std.proofs.Common.{ℕ, ◌<◌, take}
-use Rattle.ncl_decomp.specs.Words.{word_of}
-use Rattle.ncl_template.specs.Waits.{waits_once}
-use Rattle.ncl_template.specs.Joint.{WaitsJointly}
+use Rattle.ncl_template.proofs.Terms.{WaitsJointly, take, waits_once, word_of, ℕ, ◌<◌}
 use Rattle.ncl_template.proofs.joint.Beside.waits_always.Given as goal
 
 abbrev pub invariant-loop-number : goal.invariant-loop-number

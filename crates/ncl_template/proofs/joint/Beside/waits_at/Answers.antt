@@ -1,7 +1,4 @@
-use Rattle.std.proofs.Common.{◌≡◌, true, false, inl, inr, subst, arith}
-use Rattle.std.proofs.lemmas.Bool.{cases_lt}
-use Rattle.ncl_template.specs.Waits.{waits_once}
-use Rattle.ncl_template.specs.Joint.{joint_bit}
+use Rattle.ncl_template.proofs.Terms.{arith, cases_lt, false, inl, inr, joint_bit, subst, true, waits_once, ◌≡◌}
 use Rattle.ncl_template.proofs.joint.Beside.waits_at.Goals as goal
 
 pub loop-null-preserved : goal.loop-null-preserved

@@ -1,6 +1,4 @@
-use Rattle.std.proofs.Common.{◌≡◌, ℕ, ◌<◌, true, false}
-use Rattle.ncl_template.specs.Waits.{waits_once}
-use Rattle.ncl_template.specs.Joint.{joint_bit}
+use Rattle.ncl_template.proofs.Terms.{false, joint_bit, true, waits_once, ℕ, ◌<◌, ◌≡◌}
 use Rattle.ncl_template.proofs.joint.Beside.waits_at.Given as goal
 
 abbrev pub invariant-loop-null : goal.invariant-loop-null

@@ -1,5 +1,4 @@
-use Rattle.std.proofs.Common.{sym, ◌∙◌}
-use Rattle.std.proofs.lemmas.Bool.{eqb-true}
+use Rattle.ncl_template.proofs.Terms.{eqb-true, sym, ◌∙◌}
 use Rattle.ncl_template.proofs.WaitsLaws.{always_at}
 use Rattle.ncl_template.proofs.waits.Waits.always.Goals as goal
 

@@ -1,6 +1,4 @@
-use Rattle.std.proofs.Common.{ℕ, nat_eq, ap, ◌∙◌}
-use Rattle.std.proofs.lemmas.Nat.Bits.{shr_and_one}
-use Rattle.ncl_gates.specs.Bits.{is_set}
+use Rattle.ncl_template.proofs.Terms.{ap, is_set, nat_eq, shr_and_one, ℕ, ◌∙◌}
 use Rattle.ncl_template.proofs.waits.Waits.at.Goals as goal
 
 pub returns : goal.returns

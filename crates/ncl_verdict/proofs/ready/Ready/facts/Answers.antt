@@ -1,7 +1,4 @@
-use Rattle.std.proofs.Common.{◌≡◌, None, subst}
-use Rattle.ncl_faults.specs.declared.variant.Variant.TheVariants.{Base}
-use Rattle.ncl_verdict.specs.InSpace.{ReadyData}
-use Rattle.ncl_verdict.specs.Judgement.{at_variant, stopped_at}
+use Rattle.ncl_verdict.proofs.Terms.{Base, None, ReadyData, at_variant, stopped_at, subst, ◌≡◌}
 use Rattle.ncl_verdict.proofs.ready.Ready.facts.Goals as goal
 
 pub returns : goal.returns

@@ -1,8 +1,4 @@
-use Rattle.std.proofs.Common.{◌≡◌, IfOk, Some, ◌∙◌, subst}
-use Rattle.std.proofs.lemmas.Result.{IfOk-weaker}
-use Rattle.ncl_shape.specs.Stage.{StageData}
-use Rattle.ncl_verdict.specs.InSpace.{ReadyData}
-use Rattle.ncl_verdict.specs.Judgement.{of_stage, stopped_at}
+use Rattle.ncl_verdict.proofs.Terms.{IfOk, IfOk-weaker, ReadyData, Some, StageData, of_stage, stopped_at, subst, ◌∙◌, ◌≡◌}
 use Rattle.ncl_verdict.proofs.InSpaceLaws.{of_stage-said}
 use Rattle.ncl_verdict.proofs.ready.Ready.said.Goals as goal
 

@@ -1,6 +1,4 @@
-use Rattle.std.proofs.Common.{subst, sym}
-use Rattle.std.specs.Prelude.{All}
-use Rattle.ncl_verdict.specs.InSpace.{IsAfterBase}
+use Rattle.ncl_verdict.proofs.Terms.{All, IsAfterBase, subst, sym}
 use Rattle.ncl_verdict.proofs.FileOrder.{after_base-within}
 use Rattle.ncl_verdict.proofs.shared.Shared.of.Goals as goal
 

@@ -57,10 +57,10 @@ pub use Rattle.ncl_machine.proofs.NamedRails.{member-from_among}
 pub use Rattle.ncl_machine.specs.Composition.{composed, stage_function}
 pub use Rattle.ncl_merge.specs.Choice.{DriveOnce, HaveGates, all_of, becomes, cell_driving, choice_by, choice_of, folded_netlist, folded_pipeline, is_driven, is_stage_cell, is_stage_net, moved_gate, moved_stage, moved_stages, net_there, place_there, with_gate_of}
 pub use Rattle.ncl_merge.specs.Fold.{AreNeeded, AreThrough, Depends, FoldsTo, IsFold, IsFoldOf, IsFoldable, IsIndependent, IsOnOnePin, agrees, assigned, line_length, more as folded_more, none as unfolded, one_at, pins_of as net_pins, pins_sum, same_value, value_through, with_cells}
-pub use Rattle.ncl_merge.specs.Folding.{AreAllFolds, AreFewer, AreFoldsOf, CountsPins, HasNoFoldable, HasNone, HasNoneAt, HasNoneBefore, HasNoneIn, HasNoneUpTo, HasPlaces, IsFoldedAt, IsFolding, present, with_gate, with_slot}
+pub use Rattle.ncl_merge.specs.Folding.{AreAllFolds, AreFewer, AreFoldsOf, CountsPins, HasNoFoldable, HasNone, HasNoneAt, HasNoneBefore, HasNoneIn, HasNoneUpTo, IsFoldedAt, IsFolding, IsTabledStage, TabledStageData, present, with_gate, with_slot}
 pub use Rattle.ncl_merge.specs.Merged.{HasLabelOf, IsMergedBank, IsMergedStage, IsOnTheWay, IsSmaller, IsSoundNetlist, Keeps, Merged, NothingFoldable, cell_name, rail_names, standing}
 pub use Rattle.ncl_merge.specs.Rebuilt.{IsChoice, IsWhole, kept, kept_parts, name_at, number_in, with_kept}
-pub use Rattle.ncl_merge.specs.Search.{ArePins, ArePinsSoFar, HasNoFold, IsGateOf, IsJoinedAt, added, all_agree, differs_at, is_in, is_needed, is_told, nets_through}
+pub use Rattle.ncl_merge.specs.Search.{ArePins, ArePinsSoFar, HasNoFold, IsGateOf, IsJoinedAt, IsJoint, JointData, SoughtData, added, all_agree, differs_at, is_in, is_needed, is_told, needed_nets, nets_through, values_of}
 pub use Rattle.ncl_merge.specs.Thinned.{IsOld, IsRailGate, IsStood, IsThinGate, IsThinStage, IsThinned, moved, moved_bank, moved_bit, moved_pipeline}
 pub use Rattle.ncl_merge.specs.declared.needed.TheConstants.{WORDS}
 pub use Rattle.ncl_merge.specs.declared.search.Gate.{Gate as FoldGate}

@@ -1,62 +1,53 @@
 //! Folding the cells of a stage.
-ghost use Rattle.std.specs.Prelude.{All, ◌||◌, ◌+◌, ◌++◌, [], ◌∷◌, drop, IfOk, ℕ, true, false, ◌≡◌, ◌<◌, ◌≤◌, length, set, Some, None, slice_get, MatchOption};
+ghost use Rattle.std.specs.Prelude.{All, ◌||◌, ◌+◌, ◌++◌, [], ◌∷◌, drop, IfOk, true, false, ◌≡◌, ◌<◌, ◌≤◌, length, set, Some, None, slice_get, MatchOption};
+ghost use Rattle.ncl_netlist.specs.declared.ids.NetId.{NetId};
 ghost use Rattle.ncl_shape.specs.declared.stage.StageCell.{StageCell as Cell};
 ghost use Rattle.ncl_cell_rules.specs.Tables.{IsTable};
 ghost use Rattle.ncl_merge.specs.Fold.{FoldsTo, pins_of};
-ghost use Rattle.ncl_merge.specs.Folding.{HasNoFoldable, AreFewer, AreFoldsOf, AreAllFolds, with_slot, HasPlaces, HasNoneIn, IsFoldedStage, with_gate, IsFolding, CountsPins, IsFoldedAt, HasNoneAt, HasNone, present};
+ghost use Rattle.ncl_merge.specs.Folding.{HasNoFoldable, AreFewer, AreFoldsOf, AreAllFolds, with_slot, HasNoneIn, IsFoldedStage, with_gate, IsFolding, CountsPins, IsFoldedAt, HasNoneAt, HasNone, present};
 
 use crate::counts::{all_pins, put_places};
+use crate::joint::Joint;
 use crate::search::{Gate, compose};
+use crate::tabled_stage::TabledStage;
 use ncl_base::{Items, Memory};
-use ncl_netlist::NetId;
 use ncl_shape::{Pipeline, Stage, StageCell};
 use std::alloc::Global;
 
+/// The cell in a slot, if one is there.
+fn cell_at(done: &[Option<StageCell>], place: usize) -> Option<&StageCell>
+    ensures { MatchOption result ((g : Cell) → slice_get done.now place ≡ Some (Some g) → ⊥) (λ g. slice_get done.now place ≡ Some (Some g.now)) }
+{
+    if done.len() <= place {
+        return None;
+    }
+    done[place].as_ref()
+}
+
 /// The gate that the cell in a slot is folded with into another, if it drives the net of this pin of that.
 fn fold_at(
-    stage: &Stage,
-    pins: &[u32],
+    tabled: &TabledStage,
     done: &[Option<StageCell>],
     cell: &StageCell,
     pin: usize,
     place: usize,
 ) -> Option<Gate>
-    requires counts { CountsPins stage.now pins.now }
-    requires folding { IsFolding stage.now done.now cell.now }
+    requires folding { IsFolding tabled.now.stage done.now cell.now }
     requires pin { pin < length cell.now.ins.items }
-    requires one { (net : NetId) → slice_get cell.now.ins.items pin ≡ Some net → slice_get pins.now net.0 ≡ Some 1 }
-    ensures { MatchOption result ((net : NetId) → slice_get cell.now.ins.items pin ≡ Some net → HasNoneAt done.now cell.now place net) (λ gate. IsFoldedAt stage.now done.now cell.now place gate.kind gate.ins.items) }
+    requires one { (net : NetId) → slice_get cell.now.ins.items pin ≡ Some net → slice_get tabled.now.pins net.0 ≡ Some 1 }
+    ensures { MatchOption result ((net : NetId) → slice_get cell.now.ins.items pin ≡ Some net → HasNoneAt done.now cell.now place net) (λ gate. IsFoldedAt tabled.now.stage done.now cell.now place gate.kind gate.ins.items) }
 {
-    stage.facts();
-    if done.len() <= place {
+    tabled.facts();
+    let driver = cell_at(done, place)?;
+    if driver.out != cell.ins[pin] {
         return None;
     }
-    match &done[place] {
-        Some(other) => {
-            if other.out == cell.ins[pin] {
-                return compose(other, cell, pin);
-            }
-            None
-        }
-        None => None,
-    }
-}
-
-/// The place of the cell that drives a net, where the net is on one pin.
-fn place_of(pins: &[u32], places: &[usize], net: NetId) -> Option<usize>
-    ensures { MatchOption result ((place : ℕ) → slice_get pins.now net.0 ≡ Some 1 → slice_get places.now net.0 ≡ Some place → ⊥) (λ place. (slice_get pins.now net.0 ≡ Some 1) × (slice_get places.now net.0 ≡ Some place)) }
-{
-    let net = net.0 as usize;
-    if pins.len() <= net {
-        return None;
-    }
-    if places.len() <= net {
-        return None;
-    }
-    if pins[net] == 1 {
-        return Some(places[net]);
-    }
-    None
+    let joint = Joint {
+        driver,
+        reader: cell,
+        pin,
+    };
+    compose(&joint)
 }
 
 /// A slot whose cell is folded, and the gate that it is folded with into another.
@@ -67,20 +58,13 @@ pub(crate) struct Fold {
 }
 
 /// The first slot whose cell can be folded into the next cell, where counts of pins and places of cells tell which are tried.
-fn find_fold(
-    stage: &Stage,
-    pins: &[u32],
-    places: &[usize],
-    done: &[Option<StageCell>],
-    cell: &StageCell,
-) -> Option<Fold>
-    requires counts { CountsPins stage.now pins.now }
-    requires folding { IsFolding stage.now done.now cell.now }
-    ensures { MatchOption result (HasNone pins.now places.now done.now cell.now) (λ fold. IsFoldedAt stage.now done.now cell.now fold.place fold.gate.kind fold.gate.ins.items) }
+fn find_fold(tabled: &TabledStage, done: &[Option<StageCell>], cell: &StageCell) -> Option<Fold>
+    requires { IsFolding tabled.now.stage done.now cell.now }
+    ensures { MatchOption result (HasNone tabled.now done.now cell.now) (λ fold. IsFoldedAt tabled.now.stage done.now cell.now fold.place fold.gate.kind fold.gate.ins.items) }
 {
     for (pin, net) in cell.ins.iter().enumerate() {
-        if let Some(place) = place_of(pins, places, *net) {
-            if let Some(gate) = fold_at(stage, pins, done, cell, pin, place) {
+        if let Some(place) = tabled.place_of(*net) {
+            if let Some(gate) = fold_at(tabled, done, cell, pin, place) {
                 return Some(Fold { place, gate });
             }
         }
@@ -122,24 +106,17 @@ pub(crate) struct Folded {
 }
 
 /// Folds into the next cell those in the slots that can be folded into it.
-fn fold_into(
-    stage: &Stage,
-    pins: &[u32],
-    places: &[usize],
-    done: &mut Vec<Option<StageCell>>,
-    cell: StageCell,
-) -> Folded
-    requires counts { CountsPins stage.now pins.now }
-    requires folding { IsFolding stage.now done.old.items cell }
-    ensures folding { IsFolding stage.now done.new.items result.cell }
+fn fold_into(tabled: &TabledStage, done: &mut Vec<Option<StageCell>>, cell: StageCell) -> Folded
+    requires { IsFolding tabled.now.stage done.old.items cell }
+    ensures folding { IsFolding tabled.now.stage done.new.items result.cell }
     ensures long { length done.new.items ≡ length done.old.items }
     ensures few { length (present done.new.items) ≤ length (present done.old.items) }
     ensures fewer { result.folded ≡ true → length (present done.new.items) < length (present done.old.items) }
-    ensures same { result.folded ≡ false → (done.new.items ≡ done.old.items) × (result.cell ≡ cell) × HasNone pins.now places.now done.old.items cell }
+    ensures same { result.folded ≡ false → (done.new.items ≡ done.old.items) × (result.cell ≡ cell) × HasNone tabled.now done.old.items cell }
 {
     let mut cell = cell;
     let mut folded = false;
-    while let Some(fold) = find_fold(stage, pins, places, done, &cell) {
+    while let Some(fold) = find_fold(tabled, done, &cell) {
         empty(done, fold.place);
         cell = with_gate(cell, fold.gate);
         folded = true;
@@ -177,21 +154,18 @@ fn present(alloc: Global, done: &[Option<StageCell>]) -> Result<Vec<StageCell>, 
 
 /// Folds into the next cell of the stage those in the slots, and puts it into a slot; whether there were any.
 fn put_next(
-    stage: &Stage,
-    pins: &[u32],
-    places: &[usize],
+    tabled: &TabledStage,
     done: &mut Vec<Option<StageCell>>,
     cell: StageCell,
 ) -> Result<bool, Memory>
-    requires counts { CountsPins stage.now pins.now }
-    requires folding { IsFolding stage.now done.old.items cell }
-    ensures folding { IfOk result (λ _. FoldsTo stage.now (present done.new.items ++ drop (length done.old.items + 1) stage.now.cells)) }
+    requires { IsFolding tabled.now.stage done.old.items cell }
+    ensures folding { IfOk result (λ _. FoldsTo tabled.now.stage (present done.new.items ++ drop (length done.old.items + 1) tabled.now.stage.cells)) }
     ensures long { IfOk result (λ _. length done.new.items ≡ length done.old.items + 1) }
     ensures few { IfOk result (λ _. length (present done.new.items) ≤ length (present done.old.items) + 1) }
     ensures fewer { IfOk result (λ folded. folded ≡ true → length (present done.new.items) < length (present done.old.items) + 1) }
-    ensures same { IfOk result (λ folded. folded ≡ false → (done.new.items ≡ done.old.items ++ Some cell ∷ []) × HasNone pins.now places.now done.old.items cell) }
+    ensures same { IfOk result (λ folded. folded ≡ false → (done.new.items ≡ done.old.items ++ Some cell ∷ []) × HasNone tabled.now done.old.items cell) }
 {
-    let next = fold_into(stage, pins, places, done, cell);
+    let next = fold_into(tabled, done, cell);
     done.push(Some(next.cell))?;
     Ok(next.folded)
 }
@@ -205,22 +179,15 @@ pub(crate) fn cells_of(stage: &Stage) -> &[StageCell]
 
 /// The cells of a stage after folds, or `None` where no cell can be folded whose net is counted once. Each cell is looked
 /// at once, and once more for each that is folded into it.
-pub(crate) fn fold_stage(
-    alloc: Global,
-    stage: &Stage,
-    pins: &[u32],
-    places: &[usize],
-) -> Result<Option<Vec<StageCell>>, Memory>
-    requires counts { CountsPins stage.now pins.now }
-    requires places { HasPlaces stage.now places.now }
-    ensures { IfOk result (λ found. MatchOption found (HasNoneIn stage.now pins.now) (λ cells. IsFoldedStage stage.now cells.items)) }
+fn fold_stage(alloc: Global, tabled: &TabledStage) -> Result<Option<Vec<StageCell>>, Memory>
+    ensures { IfOk result (λ found. MatchOption found (HasNoneIn tabled.now.stage tabled.now.pins) (λ cells. IsFoldedStage tabled.now.stage cells.items)) }
 {
-    stage.facts();
-    let cells = cells_of(stage);
+    tabled.facts();
+    let cells = tabled.cells();
     let mut done: Vec<Option<StageCell>> = Vec::with_capacity(alloc, cells.len())?;
     let mut folded = false;
     for cell in cells {
-        if put_next(stage, pins, places, &mut done, copied(cell)?)? {
+        if put_next(tabled, &mut done, copied(cell)?)? {
             folded = true;
         }
     }
@@ -244,7 +211,12 @@ pub(crate) fn fold_next_stage(
 {
     stage.facts();
     put_places(places, cells_of(stage));
-    fold_stage(alloc, stage, pins, places)
+    let tabled = TabledStage {
+        stage,
+        pins,
+        places,
+    };
+    fold_stage(alloc, &tabled)
 }
 
 /// The cells of a stage, and whether any were folded.

@@ -1,5 +1,5 @@
 -- What becomes of each cell of a netlist whose stages were folded, by tables too, and that what is kept can be built.
-pub use Rattle.ncl_merge.proofs.Terms.{A, AckOf, All, All-from_members, All-member, AllDiffer, AreFewer, B, Bank, Bool, Cell, CellAt, CellId, ComesFrom, Contains, Contains-from_Member, Contains-from_slice_get, DriveOnce, FoldsTo, HasAllPins, HaveGates, IsCell, IsChoice, IsFaultless, IsGate, IsInputPort, IsOfBank, IsOutputPort, IsRailGate, IsRegister, IsStage, IsStageOf, IsTable, IsWhole, List, Member, Member-append_cases, Member-append_left, Member-append_right, Member-flat_map, Member-from_Contains, Member-get_or, Member-map, NetId, NetlistData, None, OnPin, Option, Origin, PartCell, Parts, PipelineData, RailOf, ReadsNet, Shape, ShownOutputs, Some, StageCell, StageData, [], all_of, ap, append-nil, append_assoc, arith, arity_of, bank_named, bank_of_register, becomes, both_ways, cases_eq, cell_driving, cell_fits, cell_of_rail, choice_by, choice_of, cond, drop, eq-eqb, eqb-true, false, filter_map-more, find-append, first_bank, flat_map, flat_map-append, flat_map-cons, gate, gate_of_stage, get_or, get_or-set_other, get_or-set_same, get_or_from_slice_get, here, inl, inner_or_last, inner_stage, input_is_port, inr, is_gate, is_stage_cell, is_stage_net, kept, kept_parts, last_bank, last_stage, length, length-map, length-set, list_any, list_any-from_member, map, map-append, map_push, member_cases, member_from_list_any, member_of_flat_map, member_of_map, nat_eq, ne_eqb, nets_at, nets_of, no_cell_drives_port, only_origin, option_or, origin_within, out_of, part_of, pins_of, pins_of-gate, place_of, port_names, rail-within, rail_at, rail_nets, rail_of_register, refl, register_no_gate, register_of_rail, register_on, register_pins_of, request_at, requests, same_Some, same_driver, same_output, set, slice_get, slice_get-from_Contains, slice_get-get_or, slice_get-some, slice_get_within, sort_of, stage_at, stage_origin, stages_apart, stages_join, subst, suc, sym, take, take-append-drop, take_all, take_more, there, true, with_cells, with_gate_of, with_kept, zero, ℕ, ◌++◌, ◌+◌, ◌<◌, ◌^◌, ◌∙◌, ◌∷◌, ◌≡◌, ◌≤◌, ◌⊎◌}
+pub use Rattle.ncl_merge.proofs.Terms.{A, AckOf, All, All-from_members, All-member, AllDiffer, AreFewer, B, Bank, Bool, Cell, CellAt, CellFits, CellId, ComesFrom, Contains, Contains-from_Member, Contains-from_slice_get, DriveOnce, FoldsTo, HasAllPins, HaveGates, IfSome, IsCell, IsChoice, IsFaultless, IsGate, IsInputPort, IsOfBank, IsOutputPort, IsRailGate, IsRegister, IsStage, IsStageOf, IsTable, IsWhole, List, Member, Member-append_cases, Member-append_left, Member-append_right, Member-flat_map, Member-from_Contains, Member-get_or, Member-map, NetId, NetlistData, None, OnPin, Option, Origin, PartCell, Parts, PipelineData, RailOf, ReadsNet, Shape, ShownOutputs, Some, StageCell, StageData, [], all_of, ap, append-nil, append_assoc, arith, arity_of, bank_named, bank_of_register, becomes, both_ways, cases_eq, cell_driving, cell_fits, cell_of_rail, choice_by, choice_of, cond, drop, eq-eqb, eqb-true, false, filter_map-more, find-append, first_bank, flat_map, flat_map-append, flat_map-cons, gate, gate_of_stage, get_or, get_or-set_other, get_or-set_same, get_or_from_slice_get, here, inl, inner_or_last, inner_stage, input_is_port, inr, is_gate, is_stage_cell, is_stage_net, kept, kept_parts, last_bank, last_stage, length, length-map, length-set, list_any, list_any-from_member, map, map-append, map_push, member_cases, member_from_list_any, member_of_flat_map, member_of_map, nat_eq, ne_eqb, nets_at, nets_of, no_cell_drives_port, only_origin, option_or, origin_within, out_of, part_of, pins_of, pins_of-gate, place_of, port_names, rail-within, rail_at, rail_nets, rail_of_register, refl, register_no_gate, register_of_rail, register_on, register_pins_of, request_at, requests, same_Some, same_driver, same_output, set, slice_get, slice_get-from_Contains, slice_get-get_or, slice_get-some, slice_get_within, sort_of, stage_at, stage_origin, stages_apart, stages_join, subst, suc, sym, take, take-append-drop, take_all, take_more, there, true, with_cells, with_gate_of, with_kept, zero, ℕ, ◌++◌, ◌+◌, ◌<◌, ◌^◌, ◌∙◌, ◌∷◌, ◌≡◌, ◌≤◌, ◌⊎◌}
 use Rattle.ncl_merge.proofs.Thinned.{kind-apart}
 use Rattle.ncl_merge.proofs.Folds.{cell-folded, rank-folded, stage-folded, stage-pin}
 use Rattle.ncl_merge.proofs.Rebuilt.{all-pins, faultless-kept, ports-apart, rail_or_not, same-choice}
@@ -105,6 +105,14 @@ kept-more nets gates staged cells k c found was now lt is inside at before pushe
     pushed ∙ ap (λ xs. xs ++ map (part_of nets) (with_kept (becomes found (get_or staged c.out.0 false) c) [])) before
     ∙ sym (map-append (part_of nets) (kept (choice_by gates staged) (take k cells)) (with_kept (becomes found (get_or staged c.out.0 false) c) []))
     ∙ ap (map (part_of nets)) (sym whole)
+
+-- what is kept of a cell is on nets that are there
+pub kept-within : (size : ℕ) (gates : List (Option StageCell)) (c : Cell) (found : Option StageCell) (staged : Bool) → CellFits size c → c.out.0 < length gates → found ≡ get_or gates c.out.0 found
+    → ((net : ℕ) (g : StageCell) → slice_get gates net ≡ Some (Some g) → All (λ (x : NetId). x.0 < size) g.ins.items)
+    → IfSome (becomes found staged c) (λ (d : Cell). All (λ (x : NetId). x.0 < size) d.ins.items × (d.out.0 < size))
+kept-within size gates c (Some g) staged fits inside at each = (each c.out.0 g (slice_get-get_or gates c.out.0 (Some g) inside ∙ ap Some (sym at)), fits.output)
+kept-within size gates c None true fits inside at each = tt
+kept-within size gates c None false fits inside at each = (fits.inputs, fits.output)
 
 -- two choices that agree on the cells keep the same
 pub kept-same : (f g : Cell → Option Cell) (cells : List Cell) → ((c : Cell) → Member c cells → f c ≡ g c) → kept f cells ≡ kept g cells

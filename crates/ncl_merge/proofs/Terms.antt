@@ -68,7 +68,7 @@ pub use Rattle.ncl_netlist.proofs.FaultLaws.{IsFaultOf-excludes}
 pub use Rattle.ncl_netlist.proofs.NameLists.{AllDiffer-once_each, equal_names, get_or-name_number, list_any-once_each, name_number-get_or, name_number-lt-length, same_itself, take-once_each}
 pub use Rattle.ncl_netlist.specs.Faults.{IsFaultless, drivers_at}
 pub use Rattle.ncl_netlist.specs.Names.{AllDiffer, name_number, once_each, same_name}
-pub use Rattle.ncl_netlist.specs.Netlist.{IsNetlist, NetlistData, drives, most_cells, pin_names}
+pub use Rattle.ncl_netlist.specs.Netlist.{CellFits, IsNetlist, NetlistData, drives, most_cells, pin_names}
 pub use Rattle.ncl_netlist.specs.Parts.{HasAllPins, cell_names, cell_of, net_of, netlist_of, part_of, port_names}
 pub use Rattle.ncl_netlist.specs.declared.cell.Cell.{Cell, Cell as NetlistCell}
 pub use Rattle.ncl_netlist.specs.declared.ids.CellId.{CellId}
@@ -125,4 +125,4 @@ pub use Rattle.std.proofs.lemmas.Simd.{map-map}
 pub use Rattle.std.proofs.lemmas.Slice.Eq.{slice_eq-Decides}
 pub use Rattle.std.specs.Bool.{beq}
 pub use Rattle.std.specs.List.{AllZip, flat_map, list_all, list_any, range_with_len, slice_index_or, zip}
-pub use Rattle.std.specs.Option.{option_or}
+pub use Rattle.std.specs.Option.{IfSome, option_or}

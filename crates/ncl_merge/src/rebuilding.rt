@@ -12,11 +12,13 @@ ghost use Rattle.ncl_merge.specs.Rebuilt.{kept, kept_parts, with_kept};
 ghost use Rattle.ncl_merge.specs.Choice.{DriveOnce, HaveGates, all_of, becomes, choice_by, choice_of, folded_netlist, is_driven, is_stage_net};
 
 use crate::folding::{cells_of, copied};
+use arrayvec::ArrayVec;
 use ncl_base::{Items, Memory, Name};
 use ncl_gates::CellKind;
 use ncl_netlist::{BuildFault, Cell, NetId, Netlist, PartCell, Parts, Port, build};
 use ncl_shape::{Pipeline, StageCell};
 use std::alloc::Global;
+use std::marker::Model;
 
 /// Marks the nets that the cells of a stage drive. Linear in the cells.
 fn mark(marks: &mut [bool], cells: &[StageCell])
@@ -108,51 +110,74 @@ fn pin_names(alloc: Global, nets: &[Name], ins: &[NetId], out: NetId) -> Result<
     Ok(names)
 }
 
-/// A cell, told by the names of its nets. Linear in their bytes.
-fn part(
-    alloc: Global,
-    nets: &[Name],
+/// A cell that is kept: its name and its net, and the gate and the input nets that it has now.
+#[derive(Drop)]
+struct KeptCell<'a> {
     kind: CellKind,
-    name: &Name,
-    ins: &[NetId],
+    name: &'a Name,
+    ins: &'a ArrayVec<NetId, 4>,
     out: NetId,
-) -> Result<PartCell, Memory>
-    requires ins { All (λ (x : NetNumber). x.0 < length nets.now) ins.now }
-    requires out { out.0 < length nets.now }
-    ensures { IfOk result (λ part. part ≡ part_of nets.now (record { kind = kind; name = name.now; ins = record { items = ins.now }; out = out })) }
+}
+
+impl<'a> Model for KeptCell<'a> {
+    ghost use Rattle.ncl_netlist.specs.declared.cell.Cell.{Cell};
+
+    ghost Value = { Cell };
+
+    ghost view = { λ a. record { kind = a.kind; name = a.name.now; ins = a.ins.now; out = a.out } };
+}
+
+/// What becomes of a cell: it gets the gate that drives its net now, if one does, and else goes where a cell of a stage drove it.
+fn becomes<'a>(cell: &'a Cell, gate: &'a Option<StageCell>, staged: bool) -> Option<KeptCell<'a>>
+    ensures { result ≡ becomes gate.now staged cell.now }
 {
-    let pins = pin_names(alloc, nets, ins, out)?;
+    match gate {
+        Some(gate) => Some(KeptCell {
+            kind: CellKind::Gate(gate.kind),
+            name: &cell.name,
+            ins: &gate.ins,
+            out: cell.out,
+        }),
+        None => {
+            if staged {
+                return None;
+            }
+            Some(KeptCell {
+                kind: cell.kind,
+                name: &cell.name,
+                ins: &cell.ins,
+                out: cell.out,
+            })
+        }
+    }
+}
+
+/// A cell, told by the names of its nets. Linear in their bytes.
+fn part(alloc: Global, nets: &[Name], cell: &KeptCell) -> Result<PartCell, Memory>
+    requires ins { All (λ (x : NetNumber). x.0 < length nets.now) cell.now.ins.items }
+    requires out { cell.now.out.0 < length nets.now }
+    ensures { IfOk result (λ part. part ≡ part_of nets.now cell.now) }
+{
+    let pins = pin_names(alloc, nets, cell.ins, cell.out)?;
     Ok(PartCell {
-        kind,
-        name: copied_name(name)?,
+        kind: cell.kind,
+        name: copied_name(cell.name)?,
         pins: Items::from_vec(pins),
     })
 }
 
-/// Adds what a cell becomes, if it is kept. Linear in the bytes of its names.
+/// Adds a cell, if it is kept. Linear in the bytes of its names.
 fn add_kept(
     alloc: Global,
     parts: &mut Vec<PartCell>,
     nets: &[Name],
-    cell: &Cell,
-    gate: &Option<StageCell>,
-    staged: bool,
+    kept: &Option<KeptCell>,
 ) -> Result<(), Memory>
-    requires ins { All (λ (x : NetNumber). x.0 < length nets.now) cell.now.ins.items }
-    requires out { cell.now.out.0 < length nets.now }
-    requires gate { IfSome gate.now (λ g. All (λ (x : NetNumber). x.0 < length nets.now) g.ins.items) }
-    ensures { IfOk result (λ _. parts.new.items ≡ parts.old.items ++ map (part_of nets.now) (with_kept (becomes gate.now staged cell.now) [])) }
+    requires { IfSome kept.now (λ c. All (λ (x : NetNumber). x.0 < length nets.now) c.ins.items × (c.out.0 < length nets.now)) }
+    ensures { IfOk result (λ _. parts.new.items ≡ parts.old.items ++ map (part_of nets.now) (with_kept kept.now [])) }
 {
-    match gate {
-        Some(gate) => {
-            let kind = CellKind::Gate(gate.kind);
-            parts.push(part(alloc, nets, kind, &cell.name, &gate.ins, cell.out)?)?;
-        }
-        None => {
-            if !staged {
-                parts.push(part(alloc, nets, cell.kind, &cell.name, &cell.ins, cell.out)?)?;
-            }
-        }
+    if let Some(cell) = kept {
+        parts.push(part(alloc, nets, cell)?)?;
     }
     Ok(())
 }
@@ -172,14 +197,8 @@ fn kept_cells(
     let mut parts = Vec::with_capacity(alloc, netlist.cells().len())?;
     for cell in netlist.cells() {
         let net = cell.out.0 as usize;
-        add_kept(
-            alloc,
-            &mut parts,
-            netlist.nets(),
-            cell,
-            &gates[net],
-            staged[net],
-        )?;
+        let kept = becomes(cell, &gates[net], staged[net]);
+        add_kept(alloc, &mut parts, netlist.nets(), &kept)?;
     }
     Ok(parts)
 }

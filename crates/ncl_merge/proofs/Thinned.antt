@@ -1,5 +1,5 @@
 -- Where nets of a thinned netlist come from, and its first rules of shape.
-use Rattle.ncl_merge.proofs.Terms.{A, Ack, AckOf, AcksBank, All-member, B, Bool, Cell, CellAt, CellKind, ComesFrom, Contains, Contains-from_Member, Contains-from_slice_get, FromPort, Gate, HasOnlyOrigin, IsAck, IsAckOfOne, IsCell, IsDataBank, IsFirstOfBank, IsFree, IsGate, IsGateOfOne, IsInputPort, IsOfBank, IsOutputPort, IsPaired, IsRailGate, IsReadPort, IsRegister, IsRegisterOfOne, IsStood, IsThinned, IsTied, IsUnmixed, Kind, LeadsTo, List, Member, Member-from_Contains, Member-map, NetId, NetlistData, OnPin, Origin, Port, RST, RailOf, ReadsNet, Some, [], ack, ack_pins, ack_pins_of, ap, arith, arity_of, arity_of-some, at_map, at_of_map, bank_of_ack, bank_of_register, both_ways, cell_fits, cond, count_by, data_is_register, driver_of, false, filter, gate, inl, inr, is_data_register, is_gate, is_register, length, map, member_of_filter, more, moved, not, one, only_origin, pins_of, pins_of-gate, pins_with, place_of, port, rail, refl, register_no_gate, renamed_net, same_place, slice_get, slice_get-from_Contains, slice_get-some, slice_get_within, sort_of, subst, suc, sum_by, sum_by-cons, sum_by-map, sym, there, true, zero, ℕ, ◌+◌, ◌<◌, ◌==◌, ◌∙◌, ◌∷◌, ◌≡◌, ◌⊎◌}
+use Rattle.ncl_merge.proofs.Terms.{A, Ack, AckOf, AcksBank, All-member, B, Bool, Cell, CellAt, CellKind, ComesFrom, Contains, Contains-from_Member, Contains-from_slice_get, FromPort, Gate, HasOnlyOrigin, IsAck, IsAckOfOne, IsCell, IsDataBank, IsFirstOfBank, IsFree, IsGate, IsGateOfOne, IsInputPort, IsOfBank, IsOutputPort, IsPaired, IsRailGate, IsReadPort, IsRegister, IsRegisterOfOne, IsStood, IsThinned, IsTied, IsUnmixed, Kind, LeadsTo, List, Member, Member-from_Contains, Member-map, NetId, NetlistData, OnPin, Origin, Port, RST, RailOf, ReadsNet, Some, [], ack, ack_pins, ack_pins_of, ap, arith, arity_of, arity_of-some, at_map, at_of_map, bank_of_ack, bank_of_register, both_ways, cell_fits, cond, count_by, data_is_register, driver_of, false, filter, gate, inl, inr, is_data_register, is_gate, is_register, length, map, member_of_filter, more, moved, not, one, only_origin, pins_of, pins_of-gate, pins_with, place_of, port, rail, refl, register_no_gate, renamed_net, same_place, slice_get, slice_get-from_Contains, slice_get-some, slice_get_within, sort_of, subst, suc, sum_by, sum_by-cons, sum_by-map, sym, true, zero, ℕ, ◌+◌, ◌<◌, ◌==◌, ◌∙◌, ◌∷◌, ◌≡◌, ◌⊎◌}
 use Rattle.ncl_merge.proofs.Weights.{same-number, sum-same}
 
 -- where an origin leads back to

@@ -1,8 +1,7 @@
 //! The nodes of a network as they are joined.
 
+use crate::holders::{Holders, Holding};
 use crate::joint::{Sources, depends_on, node_of};
-use crate::relaxing::Holders;
-use crate::sharing::Sharers;
 use crate::timing::Timing;
 use ncl_base::Memory;
 use ncl_cells::{Leaves, Offer, table_over};
@@ -36,20 +35,22 @@ pub(crate) struct Joins {
     pub waits: Vec<Waits>,
 }
 
-/// A node, and what it waits for.
+/// A joined node, what it waits for, and the sources that it is a function of.
 #[derive(Drop)]
 pub(crate) struct Pair {
     pub node: Node,
     pub waits: Waits,
+    pub leaves: Leaves,
 }
 
-/// The nodes of a network as they are joined: how many signals are of each input and node, and how many hold it.
+/// The nodes of a network as they are joined: how many signals are of each input and node, and what holds it.
 #[derive(Drop)]
-pub(crate) struct Joiner {
+pub(crate) struct Joiner<'a> {
+    pub alloc: Global,
+    pub network: &'a Network,
     pub slots: Vec<Slot>,
     pub readers: Holders,
-    pub holders: Holders,
-    pub sharers: Sharers,
+    pub holding: Holding,
     pub fits: Fits,
     pub joins: usize,
 }
@@ -76,33 +77,42 @@ fn reads_twice(ins: &[Signal]) -> bool {
     }
 }
 
-impl Joiner {
+impl<'a> Joiner<'a> {
     /// The nodes of a network as they are, which wait for all until they are to wait for less. Linear in the network.
-    pub(crate) fn new(alloc: Global, network: &Network, relax: bool) -> Result<Joiner, Memory> {
+    pub(crate) fn new(alloc: Global, network: &'a Network, relax: bool) -> Result<Self, Memory> {
         Ok(Joiner {
+            alloc,
+            network,
             slots: slots_of(alloc, network)?,
-            readers: Holders::of(alloc, network)?,
-            holders: Holders::of(alloc, network)?,
-            sharers: Sharers::new(alloc, network, relax)?,
+            readers: Holders::readers(alloc, network)?,
+            holding: Holding::new(alloc, network, relax)?,
             fits: Fits::new(alloc),
             joins: 0,
         })
     }
 
+    /// How many nodes there are.
+    pub(crate) fn count(&self) -> u32 {
+        u32::try_from(self.slots.len()).unwrap_or(u32::MAX)
+    }
+
+    /// A node, if it is as it was.
+    pub(crate) fn kept(&self, place: u32) -> Option<&Slot> {
+        let slot = self.slots.get(place as usize)?;
+        (slot.state == State::Kept).then_some(slot)
+    }
+
     /// Whether a node is as it was and has so many inputs.
-    fn is_kept(&self, place: usize, least: usize, most: usize) -> bool {
-        match self.slots.get(place) {
-            Some(slot) => {
-                let inputs = slot.node.ins.items().len();
-                slot.state == State::Kept && least <= inputs && inputs <= most
-            }
+    fn is_kept(&self, place: u32, least: usize, most: usize) -> bool {
+        match self.kept(place) {
+            Some(slot) => (least..=most).contains(&slot.node.ins.items().len()),
             None => false,
         }
     }
 
     /// Nodes of so many inputs that are as they were wait for less. Linear in the nodes.
     pub(crate) fn relax(&mut self, least: usize, most: usize) -> Result<(), Memory> {
-        for place in 0..self.slots.len() {
+        for place in 0..self.count() {
             if self.is_kept(place, least, most) {
                 self.release(place);
                 self.relax_one(place)?;
@@ -112,174 +122,183 @@ impl Joiner {
         Ok(())
     }
 
-    /// What nothing else holds of what a node reads, and all where it reads a source twice. It holds nothing meanwhile.
-    fn needed_by(&self, place: usize) -> Waits {
-        match self.slots.get(place) {
-            Some(slot) if !reads_twice(slot.node.ins.items()) => {
-                self.needed(slot.node.ins.items())
-            }
-            _ => Waits::ALL,
-        }
-    }
-
-    /// A node waits for what nothing else holds, and for what its gates then wait for besides.
-    fn relax_one(&mut self, place: usize) -> Result<(), Memory> {
-        let needed = self.needed_by(place);
-        if let Some(slot) = self.slots.get_mut(place) {
+    /// A node waits for what nothing else holds, and for what its gates then wait for besides; for all where it reads a source
+    /// twice. It holds nothing meanwhile.
+    fn relax_one(&mut self, place: u32) -> Result<(), Memory> {
+        if let Some(slot) = self.slots.get_mut(place as usize) {
+            let ins = slot.node.ins.items();
+            let needed = if reads_twice(ins) {
+                Waits::ALL
+            } else {
+                self.holding.needed(ins)
+            };
             slot.waits = self.fits.of(&slot.node, needed)?.waits;
         }
         Ok(())
     }
 
     /// How many gates stand one after another, where there may be so many in all. Linear in the nodes.
-    pub(crate) fn timing(
-        &mut self,
-        alloc: Global,
-        network: &Network,
-        most: u32,
-    ) -> Result<Timing, Memory> {
-        let mut own = Vec::new(alloc);
+    pub(crate) fn timing(&mut self, most: u32) -> Result<Timing, Memory> {
+        let mut own = Vec::new(self.alloc);
         for slot in self.slots.iter() {
             own.push(self.fits.of(&slot.node, slot.waits)?.levels)?;
         }
-        Timing::of(alloc, network, &own, most)
+        Timing::of(self.alloc, self.network, &own, most)
     }
 
     /// Sets the level of a node as it now is.
-    pub(crate) fn settle(&mut self, place: usize, timing: &mut Timing) -> Result<(), Memory> {
-        if let Some(slot) = self.slots.get(place) {
+    pub(crate) fn settle(&mut self, place: u32, timing: &mut Timing) -> Result<(), Memory> {
+        if let Some(slot) = self.slots.get(place as usize) {
             let fit = self.fits.of(&slot.node, slot.waits)?;
-            timing.settle(place, slot.node.ins.items(), fit.levels);
+            timing.settle(place as usize, slot.node.ins.items(), fit.levels);
         }
         Ok(())
     }
 
+    /// The node that a node reads at one of its inputs, if nothing else reads it.
+    pub(crate) fn only_read(&self, place: u32, at: usize) -> Option<u32> {
+        let slot = self.slots.get(place as usize)?;
+        let from = slot.node.ins.items().get(at)?.from;
+        match from {
+            SignalSource::Node(inner) if self.readers.get(from).copied() == Some(1) => Some(inner),
+            _ => None,
+        }
+    }
+
     /// What two nodes read, the second of which the first reads, if it is at most four sources.
-    pub(crate) fn sources(&self, place: usize, inner: u32) -> Option<Sources> {
-        let outer = self.slots.get(place)?;
+    pub(crate) fn sources(&self, place: u32, inner: u32) -> Option<Sources> {
+        let outer = self.slots.get(place as usize)?;
         let read = self.slots.get(inner as usize)?;
         let from = SignalSource::Node(inner);
         let mut sources = Sources::new();
-        if sources.add_all(outer.node.ins.items(), from)
-            && sources.add_all(read.node.ins.items(), from)
-        {
-            return Some(sources);
-        }
-        None
-    }
-
-    /// What waits so for some signals holds them.
-    pub(crate) fn take(&mut self, ins: &[Signal], waits: Waits) {
-        self.holders.take(ins, waits);
-        self.sharers.take(ins, waits);
-    }
-
-    /// It holds them no more.
-    pub(crate) fn give_up(&mut self, ins: &[Signal], waits: Waits) {
-        self.holders.give_up(ins, waits);
-        self.sharers.give_up(ins, waits);
+        let few = sources.add_all(outer.node.ins.items(), from)
+            && sources.add_all(read.node.ins.items(), from);
+        few.then_some(sources)
     }
 
     /// A node holds what it waits for no more.
-    pub(crate) fn release(&mut self, place: usize) {
-        if let Some(slot) = self.slots.get(place) {
-            self.holders.give_up(slot.node.ins.items(), slot.waits);
-            self.sharers.give_up(slot.node.ins.items(), slot.waits);
+    pub(crate) fn release(&mut self, place: u32) {
+        if let Some(slot) = self.slots.get(place as usize) {
+            self.holding.give_up(slot.node.ins.items(), slot.waits);
+        }
+    }
+
+    /// These nodes hold what they wait for no more.
+    fn release_all(&mut self, places: &[u32]) {
+        for place in places {
+            self.release(*place);
         }
     }
 
     /// A node holds what it waits for.
-    pub(crate) fn hold(&mut self, place: usize) {
-        if let Some(slot) = self.slots.get(place) {
-            self.holders.take(slot.node.ins.items(), slot.waits);
-            self.sharers.take(slot.node.ins.items(), slot.waits);
+    pub(crate) fn hold(&mut self, place: u32) {
+        if let Some(slot) = self.slots.get(place as usize) {
+            self.holding.take(slot.node.ins.items(), slot.waits);
         }
-    }
-
-    /// What holds none of some signals, each of another source, at which words of theirs.
-    fn needed(&self, ins: &[Signal]) -> Waits {
-        let mut waits = Waits::NONE;
-        for (place, signal) in ins.iter().enumerate() {
-            if self.holders.count_of(signal.from).unwrap_or(0) == 0 {
-                waits = waits.with(place, self.sharers.unheld(ins, signal.from));
-            }
-        }
-        waits
     }
 
     /// The two gates of a function of some sources, which wait for those that nothing else holds, if there are such.
-    fn gates(
-        &mut self,
-        alloc: Global,
-        sources: &Sources,
-        table: u16,
-    ) -> Result<Option<Pair>, Memory> {
+    fn gates(&mut self, sources: &Sources, table: u16) -> Result<Option<Pair>, Memory> {
         let signals = sources.signals();
-        let needed = self.needed(&signals[..sources.count.min(4)]);
+        let needed = self.holding.needed(&signals[..sources.count.min(4)]);
         if !self.fits.has(sources.count, table, needed)? {
             return Ok(None);
         }
-        let node = node_of(alloc, sources, table)?;
-        let needed = self.needed(node.ins.items());
+        let node = node_of(self.alloc, sources, table)?;
+        let needed = self.holding.needed(node.ins.items());
         let waits = self.fits.of(&node, needed)?.waits;
         if waits == Waits::ALL {
             return Ok(None);
         }
-        Ok(Some(Pair { node, waits }))
+        let leaves = sources.leaves();
+        Ok(Some(Pair {
+            node,
+            waits,
+            leaves,
+        }))
     }
 
-    /// Drops a node.
-    pub(crate) fn drop_node(&mut self, place: usize) {
-        if let Some(slot) = self.slots.get_mut(place) {
-            self.readers.give_up(slot.node.ins.items(), Waits::ALL);
-            slot.state = State::Gone;
-        }
-        self.joins = self.joins.saturating_add(1);
-    }
-
-    /// Puts a joined node in the place of a node.
-    pub(crate) fn put(&mut self, place: usize, leaves: Leaves, pair: Pair) {
-        if let Some(slot) = self.slots.get_mut(place) {
-            self.readers.give_up(slot.node.ins.items(), Waits::ALL);
-            self.readers.take(pair.node.ins.items(), Waits::ALL);
-            slot.node = pair.node;
-            slot.waits = pair.waits;
-            slot.state = State::Joined(leaves);
-        }
-    }
-
-    /// The gates of a node that is joined with one that it reads, if they are in time. Both hold nothing meanwhile.
-    pub(crate) fn pair(
-        &mut self,
-        alloc: Global,
-        network: &Network,
-        place: usize,
-        sources: &Sources,
-        timing: &Timing,
-    ) -> Result<Option<Pair>, Memory> {
-        let Ok(number) = u32::try_from(place) else {
+    /// The gates of a node that is joined with one that it reads, if there are such and they are in time. Both hold nothing
+    /// meanwhile.
+    fn pair(&mut self, place: u32, inner: u32, timing: &Timing) -> Result<Option<Pair>, Memory> {
+        let Some(sources) = self.sources(place, inner) else {
             return Ok(None);
         };
-        let found = match table_over(alloc, network, number, sources.leaves())? {
-            Some(table) if depends_on(table, sources.count) => {
-                self.gates(alloc, sources, table)?
-            }
+        let found = match table_over(self.alloc, self.network, place, sources.leaves())? {
+            Some(table) if depends_on(table, sources.count) => self.gates(&sources, table)?,
             _ => None,
         };
         let Some(pair) = found else {
             return Ok(None);
         };
         let own = self.fits.of(&pair.node, pair.waits)?.levels;
-        if timing.is_in_time(place, pair.node.ins.items(), own) {
-            return Ok(Some(pair));
+        let in_time = timing.is_in_time(place as usize, pair.node.ins.items(), own);
+        Ok(if in_time { Some(pair) } else { None })
+    }
+
+    /// What nodes become that take in a node that they read, one after another, up to the first that can't. What they become holds
+    /// what it waits for.
+    fn pairs(&mut self, by: &[u32], inner: u32, timing: &Timing) -> Result<Vec<Pair>, Memory> {
+        let mut pairs = Vec::new(self.alloc);
+        for place in by {
+            let Some(pair) = self.pair(*place, inner, timing)? else {
+                return Ok(pairs);
+            };
+            self.holding.take(pair.node.ins.items(), pair.waits);
+            pairs.push(pair)?;
         }
-        Ok(None)
+        Ok(pairs)
+    }
+
+    /// Puts a joined node in the place of a node.
+    pub(crate) fn put(&mut self, place: u32, pair: Pair) {
+        if let Some(slot) = self.slots.get_mut(place as usize) {
+            self.readers.give_up(slot.node.ins.items(), Waits::ALL);
+            self.readers.take(pair.node.ins.items(), Waits::ALL);
+            slot.node = pair.node;
+            slot.waits = pair.waits;
+            slot.state = State::Joined(pair.leaves);
+        }
+    }
+
+    /// Drops a node.
+    pub(crate) fn drop_node(&mut self, place: u32) {
+        if let Some(slot) = self.slots.get_mut(place as usize) {
+            self.readers.give_up(slot.node.ins.items(), Waits::ALL);
+            slot.state = State::Gone;
+        }
+        self.joins = self.joins.saturating_add(1);
+    }
+
+    /// Joins a node with each of those that read it, which hold nothing meanwhile, if all can take it in, and tells whether they
+    /// can. If they can't they still hold nothing.
+    pub(crate) fn join_with(
+        &mut self,
+        by: &[u32],
+        inner: u32,
+        timing: &Timing,
+    ) -> Result<bool, Memory> {
+        self.release(inner);
+        self.release_all(by);
+        let pairs = self.pairs(by, inner, timing)?;
+        let all = pairs.len() == by.len();
+        for (place, pair) in by.iter().zip(pairs) {
+            if all {
+                self.put(*place, pair);
+            } else {
+                self.holding.give_up(pair.node.ins.items(), pair.waits);
+            }
+        }
+        if all {
+            self.drop_node(inner);
+        }
+        Ok(all)
     }
 
     /// What is found.
-    pub(crate) fn joins(self, alloc: Global) -> Result<Joins, Memory> {
-        let mut offers = Vec::new(alloc);
-        let mut waits = Vec::new(alloc);
+    pub(crate) fn joins(self) -> Result<Joins, Memory> {
+        let mut offers = Vec::new(self.alloc);
+        let mut waits = Vec::new(self.alloc);
         for slot in self.slots {
             if slot.state != State::Gone {
                 waits.push(slot.waits)?;

@@ -27,7 +27,7 @@ impl Sources {
     }
 
     /// Adds a source, if it isn't there, and tells whether there is room for it.
-    fn add(&mut self, from: SignalSource) -> bool {
+    pub(crate) fn add(&mut self, from: SignalSource) -> bool {
         if self.at.iter().any(|other| *other == from) {
             return true;
         }

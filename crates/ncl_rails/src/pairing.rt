@@ -1,85 +1,46 @@
 //! Nodes that are joined with those that they read, where the gates of both become two.
 
 use crate::joiner::{Joiner, Joins};
-use crate::summing::{Sum, sums_of};
+use crate::summing::Sum;
 use crate::timing::Timing;
 use ncl_base::Memory;
 use ncl_cells::may_relax;
-use ncl_network::{Network, SignalSource};
+use ncl_network::Network;
 use std::alloc::Global;
 
 /// The most nodes of a network whose nodes are joined.
 const MOST_NODES: usize = 8_192;
 
-impl Joiner {
-    /// The node that a node reads at one of its inputs, if nothing else reads it.
-    fn only_read(&self, place: usize, at: usize) -> Option<u32> {
-        let slot = self.slots.get(place)?;
-        let signal = slot.node.ins.items().get(at)?;
-        let SignalSource::Node(inner) = signal.from else {
-            return None;
-        };
-        match self.readers.count_of(signal.from) {
-            Some(1) => Some(inner),
-            _ => None,
-        }
-    }
-
-    /// Joins a node with one that it reads, if the table has gates of both, and tells whether it does.
-    fn join(
-        &mut self,
-        alloc: Global,
-        network: &Network,
-        place: usize,
-        inner: u32,
-        timing: &Timing,
-    ) -> Result<bool, Memory> {
-        let Some(sources) = self.sources(place, inner) else {
+impl<'a> Joiner<'a> {
+    /// Joins a node with one that only it reads, if the table has gates of both, and tells whether it does.
+    fn join(&mut self, place: u32, inner: u32, timing: &Timing) -> Result<bool, Memory> {
+        if self.sources(place, inner).is_none() {
             return Ok(false);
-        };
-        self.release(place);
-        self.release(inner as usize);
-        let found = self.pair(alloc, network, place, &sources, timing)?;
-        let joins = found.is_some();
-        match found {
-            Some(pair) => {
-                self.put(place, sources.leaves(), pair);
-                self.drop_node(inner as usize);
-            }
-            None => self.hold(inner as usize),
         }
-        self.hold(place);
+        let joins = self.join_with(&[place], inner, timing)?;
+        if !joins {
+            self.hold(inner);
+            self.hold(place);
+        }
         Ok(joins)
     }
 
     /// Joins a node with the first that it can be joined with, and tells whether there is one.
-    fn join_one(
-        &mut self,
-        alloc: Global,
-        network: &Network,
-        place: usize,
-        timing: &Timing,
-    ) -> Result<bool, Memory> {
+    fn join_one(&mut self, place: u32, timing: &Timing) -> Result<bool, Memory> {
         for at in 0..4usize {
-            if let Some(inner) = self.only_read(place, at) {
-                if self.join(alloc, network, place, inner, timing)? {
-                    return Ok(true);
-                }
+            if let Some(inner) = self.only_read(place, at)
+                && self.join(place, inner, timing)?
+            {
+                return Ok(true);
             }
         }
         Ok(false)
     }
 
     /// Joins a node with those that it can be joined with, one after another.
-    fn join_at(
-        &mut self,
-        alloc: Global,
-        network: &Network,
-        place: usize,
-        timing: &Timing,
-    ) -> Result<(), Memory> {
+    fn join_at(&mut self, place: u32, timing: &Timing) -> Result<(), Memory> {
         for _ in 0..4u32 {
-            if !self.join_one(alloc, network, place, timing)? {
+            if !self.join_one(place, timing)? {
                 return Ok(());
             }
         }
@@ -87,14 +48,9 @@ impl Joiner {
     }
 
     /// Joins all nodes that can be.
-    fn join_all(
-        &mut self,
-        alloc: Global,
-        network: &Network,
-        timing: &mut Timing,
-    ) -> Result<(), Memory> {
-        for place in 0..network.nodes.items().len() {
-            self.join_at(alloc, network, place, timing)?;
+    fn join_all(&mut self, timing: &mut Timing) -> Result<(), Memory> {
+        for place in 0..self.count() {
+            self.join_at(place, timing)?;
             self.settle(place, timing)?;
         }
         Ok(())
@@ -102,20 +58,13 @@ impl Joiner {
 
     /// Joins all nodes that can be where nodes wait for less: sums with carries before others, and those of two inputs take what
     /// they wait for last.
-    fn relax_and_join(
-        &mut self,
-        alloc: Global,
-        network: &Network,
-        sums: Vec<Sum>,
-        most: u32,
-    ) -> Result<(), Memory> {
+    fn relax_and_join(&mut self, sums: Vec<Sum>, most: u32) -> Result<(), Memory> {
         self.relax(3, 4)?;
-        let mut timing = self.timing(alloc, network, most)?;
+        let mut timing = self.timing(most)?;
         self.add_sums(sums);
-        self.join_all(alloc, network, &mut timing)?;
-        self.spread_all(alloc, network, &mut timing)?;
-        self.relax(2, 2)?;
-        Ok(())
+        self.join_all(&mut timing)?;
+        self.spread_all(&mut timing)?;
+        self.relax(2, 2)
     }
 }
 
@@ -131,18 +80,15 @@ pub(crate) fn joins_of(
     most: u32,
 ) -> Result<Option<Joins>, Memory> {
     let relax = may_relax(network) && network.nodes.items().len() <= MOST_NODES;
-    let sums = sums_of(alloc, network, most_of_sums)?;
-    if !relax && sums.is_empty() {
-        return Ok(None);
-    }
     let mut joiner = Joiner::new(alloc, network, relax)?;
+    let sums = joiner.sums(most_of_sums)?;
     if relax {
-        joiner.relax_and_join(alloc, network, sums, most)?;
+        joiner.relax_and_join(sums, most)?;
     } else {
         joiner.add_sums(sums);
     }
     if joiner.joins == 0 {
         return Ok(None);
     }
-    Ok(Some(joiner.joins(alloc)?))
+    Ok(Some(joiner.joins()?))
 }

@@ -4,10 +4,8 @@ ghost use Rattle.std.specs.Prelude.{◌≤◌, length};
 use crate::held::MOST_HOLDERS;
 use crate::together::{MOST_SOURCES, Together};
 use arrayvec::ArrayVec;
-use ncl_base::Memory;
-use ncl_network::{Network, Signal, SignalSource};
+use ncl_network::{Signal, SignalSource};
 use ncl_template::Waits;
-use std::alloc::Global;
 
 /// What stands where there is no signal.
 const NONE: Signal = Signal {
@@ -17,7 +15,7 @@ const NONE: Signal = Signal {
 
 /// What a node of at most four inputs reads, and for what it waits.
 #[derive(Clone, Copy, Debug, PartialEq, Eq)]
-struct Sharer {
+pub(crate) struct Sharer {
     ins: [Signal; 4],
     count: usize,
     waits: Waits,
@@ -25,7 +23,7 @@ struct Sharer {
 
 impl Sharer {
     /// A node that reads these and waits so, if these are at most four.
-    fn of(ins: &[Signal], waits: Waits) -> Option<Sharer> {
+    pub(crate) fn of(ins: &[Signal], waits: Waits) -> Option<Sharer> {
         let mut sharer = Sharer {
             ins: [NONE; 4],
             count: ins.len(),
@@ -88,18 +86,23 @@ impl Rule {
 
 /// The nodes that wait for a source at some words, at most six.
 #[derive(Clone, Copy, Debug)]
-struct Few {
+pub(crate) struct Few {
     at: [Option<Sharer>; MOST_HOLDERS],
 }
 
 impl Few {
+    /// None.
+    pub(crate) const NONE: Few = Few {
+        at: [None; MOST_HOLDERS],
+    };
+
     /// Whether there is no free place.
     fn is_full(&self) -> bool {
         self.at.iter().all(|sharer| sharer.is_some())
     }
 
     /// Puts a node in the place of another, if that is there, or in a free place.
-    fn exchange(&mut self, old: Option<Sharer>, new: Option<Sharer>) {
+    pub(crate) fn exchange(&mut self, old: Option<Sharer>, new: Option<Sharer>) {
         for place in self.at.iter_mut() {
             if *place == old {
                 *place = new;
@@ -107,13 +110,27 @@ impl Few {
             }
         }
     }
-}
 
-/// For each input and each node of a network some nodes that wait for it at some words.
-#[derive(Drop)]
-pub(crate) struct Sharers {
-    inputs: Vec<Few>,
-    nodes: Vec<Few>,
+    /// The words of some signals, each of another source, at which none waits for a source: all, where there is no place for
+    /// one node more.
+    pub(crate) fn unheld(&self, ins: &[Signal], source: SignalSource) -> u16 {
+        if self.at.iter().all(|sharer| sharer.is_none()) {
+            return u16::MAX;
+        }
+        let mut together = Together::new();
+        together.add_all(ins);
+        for sharer in self.at.iter() {
+            if let Some(sharer) = sharer {
+                together.add_all(sharer.signals());
+            }
+        }
+        let count = together.count.min(MOST_SOURCES);
+        let words = unheld_by(self, &together.at[..count], ins, source);
+        if words != 0 && self.is_full() {
+            return u16::MAX;
+        }
+        words
+    }
 }
 
 /// The number of a word of signals, where the bits of their sources are the first of a number.
@@ -126,92 +143,6 @@ fn word_of(ins: &[Signal], number: u32) -> u32 {
         }
     }
     word
-}
-
-impl Sharers {
-    /// None, and places for them where nodes may wait for less. Linear in the network.
-    pub(crate) fn new(alloc: Global, network: &Network, relax: bool) -> Result<Sharers, Memory> {
-        let none = Few {
-            at: [None; MOST_HOLDERS],
-        };
-        let (inputs, nodes) = if relax {
-            (network.inputs as usize, network.nodes.items().len())
-        } else {
-            (0, 0)
-        };
-        Ok(Sharers {
-            inputs: vec![in alloc; none; inputs]?,
-            nodes: vec![in alloc; none; nodes]?,
-        })
-    }
-
-    /// The nodes for a source.
-    fn of(&self, source: SignalSource) -> Option<&Few> {
-        match source {
-            SignalSource::Input(i) => self.inputs.get(i as usize),
-            SignalSource::Node(k) => self.nodes.get(k as usize),
-            SignalSource::Const(_) => None,
-        }
-    }
-
-    /// The nodes for a source, to be changed.
-    fn at(&mut self, source: SignalSource) -> Option<&mut Few> {
-        match source {
-            SignalSource::Input(i) => self.inputs.get_mut(i as usize),
-            SignalSource::Node(k) => self.nodes.get_mut(k as usize),
-            SignalSource::Const(_) => None,
-        }
-    }
-
-    /// Adds a node for each signal that it waits for at some words.
-    pub(crate) fn take(&mut self, ins: &[Signal], waits: Waits) {
-        let sharer = Sharer::of(ins, waits);
-        for (place, signal) in ins.iter().enumerate() {
-            if !waits.once(place) || waits.always(place) {
-                continue;
-            }
-            if let Some(few) = self.at(signal.from) {
-                few.exchange(None, sharer);
-            }
-        }
-    }
-
-    /// Takes such a node away.
-    pub(crate) fn give_up(&mut self, ins: &[Signal], waits: Waits) {
-        let sharer = Sharer::of(ins, waits);
-        for (place, signal) in ins.iter().enumerate() {
-            if !waits.once(place) || waits.always(place) {
-                continue;
-            }
-            if let Some(few) = self.at(signal.from) {
-                few.exchange(sharer, None);
-            }
-        }
-    }
-
-    /// The words of some signals, each of another source, at which nothing waits for a source: all, where there is no place
-    /// for one node more.
-    pub(crate) fn unheld(&self, ins: &[Signal], source: SignalSource) -> u16 {
-        let Some(few) = self.of(source) else {
-            return u16::MAX;
-        };
-        if few.at.iter().all(|sharer| sharer.is_none()) {
-            return u16::MAX;
-        }
-        let mut together = Together::new();
-        together.add_all(ins);
-        for sharer in few.at.iter() {
-            if let Some(sharer) = sharer {
-                together.add_all(sharer.signals());
-            }
-        }
-        let count = together.count.min(MOST_SOURCES);
-        let words = unheld_by(few, &together.at[..count], ins, source);
-        if words != 0 && few.is_full() {
-            return u16::MAX;
-        }
-        words
-    }
 }
 
 /// When each of some nodes waits for a source.

@@ -12,7 +12,7 @@ use crate::joiner::Joins;
 use crate::layout::{Layout, lay_out};
 use crate::pairing::joins_of;
 use crate::relaxing::{relaxed, told_or_all};
-use crate::summing::sums_of;
+use crate::summing::has_sums;
 use crate::timing::reckoned_depth;
 use ncl_base::Memory;
 use ncl_cells::{Way, carries_first, improve, recast, reordered};
@@ -93,28 +93,35 @@ fn most_depth(alloc: Global, network: &Network) -> Result<u32, Memory>
     Ok(a_tenth_more(depth))
 }
 
+/// Gates of a network, and how many may stand one after another in others that are taken in their place.
+#[derive(Drop)]
+struct Usual {
+    layout: Layout,
+    most: u32,
+}
+
 /// The gates of a network, or those of another one with the same answers, where these are better: fewer, and no deeper than the
-/// others or than so many; or as many, and less deep. What the nodes of the other one wait for is told or found.
+/// others or than may be; or as many, and less deep. What the nodes of the other one wait for is told or found.
 fn better_gates(
     alloc: Global,
     network: &Network,
-    usual: Layout,
-    most: u32,
+    usual: Usual,
     other: &Network,
     told: Option<Vec<Waits>>,
-) -> Result<Layout, Memory>
+) -> Result<Usual, Memory>
     requires network { CanHaveGates network.now }
-    requires usual { AreGatesOf network.now usual.gates usual.outputs.items }
+    requires usual { AreGatesOf network.now usual.layout.gates usual.layout.outputs.items }
     requires other { IsSplit other.now }
     requires same { IsSameAs network.now other.now }
-    ensures gates { IfOk result (λ layout. AreGatesOf network.now layout.gates layout.outputs.items) }
-    ensures fewer { IfOk result (λ layout. length layout.gates.cells ≤ length usual.gates.cells) }
+    ensures gates { IfOk result (λ found. AreGatesOf network.now found.layout.gates found.layout.outputs.items) }
+    ensures fewer { IfOk result (λ found. length found.layout.gates.cells ≤ length usual.layout.gates.cells) }
 {
     let layout = gates_of(alloc, other, told)?;
-    let before = Size::of(alloc, &usual, network.inputs)?;
+    let before = Size::of(alloc, &usual.layout, network.inputs)?;
     let after = Size::of(alloc, &layout, network.inputs)?;
+    let most = usual.most;
     if after.is_better(before, most) {
-        return Ok(layout);
+        return Ok(Usual { layout, most });
     }
     Ok(usual)
 }
@@ -124,23 +131,22 @@ fn better_gates(
 fn joined_within(
     alloc: Global,
     network: &Network,
-    usual: Layout,
-    most: u32,
+    usual: Usual,
     other: &Network,
     reckoned: u32,
-) -> Result<Layout, Memory>
+) -> Result<Usual, Memory>
     requires network { CanHaveGates network.now }
-    requires usual { AreGatesOf network.now usual.gates usual.outputs.items }
+    requires usual { AreGatesOf network.now usual.layout.gates usual.layout.outputs.items }
     requires other { IsSplit other.now }
     requires same { IsSameAs network.now other.now }
-    ensures gates { IfOk result (λ layout. AreGatesOf network.now layout.gates layout.outputs.items) }
-    ensures fewer { IfOk result (λ layout. length layout.gates.cells ≤ length usual.gates.cells) }
+    ensures gates { IfOk result (λ found. AreGatesOf network.now found.layout.gates found.layout.outputs.items) }
+    ensures fewer { IfOk result (λ found. length found.layout.gates.cells ≤ length usual.layout.gates.cells) }
 {
-    let Some(Joins { offers, waits }) = joins_of(alloc, other, most, reckoned)? else {
+    let Some(Joins { offers, waits }) = joins_of(alloc, other, usual.most, reckoned)? else {
         return Ok(usual);
     };
     match recast(alloc, other, &offers)? {
-        Some(joined) => better_gates(alloc, network, usual, most, &joined, Some(waits)),
+        Some(joined) => better_gates(alloc, network, usual, &joined, Some(waits)),
         None => Ok(usual),
     }
 }
@@ -150,128 +156,75 @@ fn joined_within(
 fn joined_gates(
     alloc: Global,
     network: &Network,
-    usual: Layout,
-    most: u32,
+    usual: Usual,
     other: &Network,
-) -> Result<Layout, Memory>
+) -> Result<Usual, Memory>
     requires network { CanHaveGates network.now }
-    requires usual { AreGatesOf network.now usual.gates usual.outputs.items }
+    requires usual { AreGatesOf network.now usual.layout.gates usual.layout.outputs.items }
     requires other { IsSplit other.now }
     requires same { IsSameAs network.now other.now }
-    ensures gates { IfOk result (λ layout. AreGatesOf network.now layout.gates layout.outputs.items) }
-    ensures fewer { IfOk result (λ layout. length layout.gates.cells ≤ length usual.gates.cells) }
+    ensures gates { IfOk result (λ found. AreGatesOf network.now found.layout.gates found.layout.outputs.items) }
+    ensures fewer { IfOk result (λ found. length found.layout.gates.cells ≤ length usual.layout.gates.cells) }
 {
-    let joined = joined_within(alloc, network, usual, most, other, u32::MAX)?;
-    let joined = joined_within(alloc, network, joined, most, other, most)?;
-    joined_within(alloc, network, joined, most, other, most - most / 8)
+    let most = usual.most;
+    let joined = joined_within(alloc, network, usual, other, u32::MAX)?;
+    let joined = joined_within(alloc, network, joined, other, most)?;
+    joined_within(alloc, network, joined, other, most - most / 8)
 }
 
-/// The gates of a network, or those of another one with the same answers, with its carries before its sums and with some nodes
-/// joined, where these are better.
-fn summed_gates(
-    alloc: Global,
-    network: &Network,
-    usual: Layout,
-    most: u32,
-    other: &Network,
-) -> Result<Layout, Memory>
-    requires network { CanHaveGates network.now }
-    requires usual { AreGatesOf network.now usual.gates usual.outputs.items }
-    requires other { IsSplit other.now }
-    requires same { IsSameAs network.now other.now }
-    ensures gates { IfOk result (λ layout. AreGatesOf network.now layout.gates layout.outputs.items) }
-    ensures fewer { IfOk result (λ layout. length layout.gates.cells ≤ length usual.gates.cells) }
-{
-    if sums_of(alloc, other, most)?.is_empty() {
-        return Ok(usual);
-    }
-    let order = carries_first(alloc, other)?;
-    match reordered(alloc, other, &order)? {
-        Some(turned) => joined_gates(alloc, network, usual, most, &turned),
-        None => Ok(usual),
-    }
-}
-
-/// The gates of a network, or those of another one with the same answers and with some nodes joined, where these are better.
-fn best_gates(
-    alloc: Global,
-    network: &Network,
-    usual: Layout,
-    most: u32,
-    other: &Network,
-) -> Result<Layout, Memory>
-    requires network { CanHaveGates network.now }
-    requires usual { AreGatesOf network.now usual.gates usual.outputs.items }
-    requires other { IsSplit other.now }
-    requires same { IsSameAs network.now other.now }
-    ensures gates { IfOk result (λ layout. AreGatesOf network.now layout.gates layout.outputs.items) }
-    ensures fewer { IfOk result (λ layout. length layout.gates.cells ≤ length usual.gates.cells) }
-{
-    let joined = joined_gates(alloc, network, usual, most, other)?;
-    summed_gates(alloc, network, joined, most, other)
-}
-
-/// The gates of a network, or those of another one with the same answers, where these are better, with some of its nodes joined or
-/// as they are.
+/// The gates of a network, or those of another one with the same answers, where these are better: as it is, with some of its nodes
+/// joined, or with its carries before its sums and with some nodes joined.
 fn other_gates(
     alloc: Global,
     network: &Network,
-    usual: Layout,
-    most: u32,
+    usual: Usual,
     other: &Network,
-) -> Result<Layout, Memory>
+) -> Result<Usual, Memory>
     requires network { CanHaveGates network.now }
-    requires usual { AreGatesOf network.now usual.gates usual.outputs.items }
+    requires usual { AreGatesOf network.now usual.layout.gates usual.layout.outputs.items }
     requires other { IsSplit other.now }
     requires same { IsSameAs network.now other.now }
-    ensures gates { IfOk result (λ layout. AreGatesOf network.now layout.gates layout.outputs.items) }
-    ensures fewer { IfOk result (λ layout. length layout.gates.cells ≤ length usual.gates.cells) }
+    ensures gates { IfOk result (λ found. AreGatesOf network.now found.layout.gates found.layout.outputs.items) }
+    ensures fewer { IfOk result (λ found. length found.layout.gates.cells ≤ length usual.layout.gates.cells) }
 {
-    let found = better_gates(alloc, network, usual, most, other, None)?;
-    best_gates(alloc, network, found, most, other)
-}
-
-/// The gates of a network, or those of one that is made anew this way, where these are better.
-fn anew_gates(
-    alloc: Global,
-    network: &Network,
-    usual: Layout,
-    most: u32,
-    way: Way,
-) -> Result<Layout, Memory>
-    requires network { CanHaveGates network.now }
-    requires usual { AreGatesOf network.now usual.gates usual.outputs.items }
-    ensures gates { IfOk result (λ layout. AreGatesOf network.now layout.gates layout.outputs.items) }
-    ensures fewer { IfOk result (λ layout. length layout.gates.cells ≤ length usual.gates.cells) }
-{
-    match improve(alloc, network, way)? {
-        Some(other) => other_gates(alloc, network, usual, most, &other),
-        None => Ok(usual),
+    let found = better_gates(alloc, network, usual, other, None)?;
+    let found = joined_gates(alloc, network, found, other)?;
+    if !has_sums(alloc, other, found.most)? {
+        return Ok(found);
+    }
+    let order = carries_first(alloc, other)?;
+    match reordered(alloc, other, &order)? {
+        Some(turned) => joined_gates(alloc, network, found, &turned),
+        None => Ok(found),
     }
 }
 
-/// Gates of a network, and how many may stand one after another in others.
-#[derive(Drop)]
-struct FirstGates {
-    layout: Layout,
-    most: u32,
+/// The gates of a network, or those of one that is made anew this way, where these are better.
+fn anew_gates(alloc: Global, network: &Network, usual: Usual, way: Way) -> Result<Usual, Memory>
+    requires network { CanHaveGates network.now }
+    requires usual { AreGatesOf network.now usual.layout.gates usual.layout.outputs.items }
+    ensures gates { IfOk result (λ found. AreGatesOf network.now found.layout.gates found.layout.outputs.items) }
+    ensures fewer { IfOk result (λ found. length found.layout.gates.cells ≤ length usual.layout.gates.cells) }
+{
+    match improve(alloc, network, way)? {
+        Some(other) => other_gates(alloc, network, usual, &other),
+        None => Ok(usual),
+    }
 }
 
 /// The gates of a network, or those of one that is made anew as if each node waited for all, where these are better. Others may be a
 /// tenth deeper than its nodes are where each waits for all, as is reckoned.
-fn first_gates(alloc: Global, network: &Network) -> Result<FirstGates, Memory>
+fn first_gates(alloc: Global, network: &Network) -> Result<Usual, Memory>
     requires { CanHaveGates network.now }
     ensures { IfOk result (λ first. AreGatesOf network.now first.layout.gates first.layout.outputs.items) }
 {
-    let usual = gates_of(alloc, network, None)?;
+    let layout = gates_of(alloc, network, None)?;
     let Some(waiting) = improve(alloc, network, Way::WAITING)? else {
         let most = most_depth(alloc, network)?;
-        let layout = best_gates(alloc, network, usual, most, network)?;
-        return Ok(FirstGates { layout, most });
+        return other_gates(alloc, network, Usual { layout, most }, network);
     };
     let most = most_depth(alloc, &waiting)?;
-    let layout = other_gates(alloc, network, usual, most, &waiting)?;
-    Ok(FirstGates { layout, most })
+    other_gates(alloc, network, Usual { layout, most }, &waiting)
 }
 
 /// Gates that compute a network: its own, or those of others with the same answers that are made of it, where these are better:
@@ -281,10 +234,11 @@ pub(crate) fn stage_gates(alloc: Global, network: &Network) -> Result<Layout, Me
     requires { CanHaveGates network.now }
     ensures { IfOk result (λ layout. AreGatesOf network.now layout.gates layout.outputs.items) }
 {
-    let FirstGates { layout, most } = first_gates(alloc, network)?;
-    let found = anew_gates(alloc, network, layout, most, Way::EAGER)?;
-    let Size { depth, .. } = Size::of(alloc, &found, network.inputs)?;
+    let first = first_gates(alloc, network)?;
+    let Usual { layout, .. } = anew_gates(alloc, network, first, Way::EAGER)?;
+    let Size { depth, .. } = Size::of(alloc, &layout, network.inputs)?;
     let most = a_tenth_more(depth);
-    let found = anew_gates(alloc, network, found, most, Way::BORROWING)?;
-    anew_gates(alloc, network, found, most, Way::BORROWING_TWICE)
+    let found = anew_gates(alloc, network, Usual { layout, most }, Way::BORROWING)?;
+    let found = anew_gates(alloc, network, found, Way::BORROWING_TWICE)?;
+    Ok(found.layout)
 }

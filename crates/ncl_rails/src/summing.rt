@@ -1,13 +1,12 @@
 //! Sums beside the carries of their bits: the two nodes of a full adder.
 
-use crate::joiner::{Joiner, Pair, State};
+use crate::joiner::{Joiner, Pair};
 use crate::joint::{Sources, node_of};
-use crate::relaxing::Holders;
 use crate::timing::Timing;
 use ncl_base::Memory;
 use ncl_cells::{Leaves, table_over};
 use ncl_decomp::table::inverted;
-use ncl_network::{Network, Node, Signal, SignalSource};
+use ncl_network::{Network, Signal, SignalSource};
 use ncl_template::{Waits, fit_of, waits_with_last};
 use std::alloc::Global;
 use std::collections::BTreeMap;
@@ -121,99 +120,88 @@ const FIRST_THREE: Waits = Waits {
 /// A sum that can be made beside a carry.
 #[derive(Drop)]
 pub(crate) struct Sum {
-    /// The place of the node of two inputs that computes it.
-    pub place: usize,
+    /// The node of two inputs that computes it.
+    pub place: u32,
     /// The node that only this one reads.
     pub inner: u32,
     /// The carry of the same three sources.
     pub carry: u32,
-    /// The three sources.
-    pub leaves: Leaves,
-    /// The node over the sources and the carry that computes the same.
-    pub node: Node,
+    /// What computes the same of the three sources over these and the carry.
+    pub pair: Pair,
 }
 
-/// A network, its nodes of three inputs, how many signals are of each input and node, and how many gates stand one after another.
+/// The nodes of a network, those of three inputs by what they read, and how many gates stand one after another.
 #[derive(Drop)]
 struct Finder<'a> {
-    network: &'a Network,
+    joiner: &'a Joiner<'a>,
     carries: BTreeMap<Triple, u32>,
-    readers: Holders,
     timing: Timing,
 }
 
 impl<'a> Finder<'a> {
-    /// The sources of a node and of one that it reads, which nothing else reads, if these are three.
-    fn sources(&self, node: &Node, inner: u32) -> Option<Sources> {
-        let from = SignalSource::Node(inner);
-        let read = self.network.nodes.items().get(inner as usize)?;
-        if self.readers.count_of(from) != Some(1) {
-            return None;
-        }
-        let mut sources = Sources::new();
-        if !sources.add_all(node.ins.items(), from) || !sources.add_all(read.ins.items(), from) {
-            return None;
-        }
-        if sources.count == 3 {
-            Some(sources)
-        } else {
-            None
-        }
+    /// The node that reads three sources, if it comes in time for a node that reads it.
+    fn carry(&self, place: u32, sources: &Sources) -> Option<u32> {
+        let triple = triple_of(self.joiner.network, sources)?;
+        let carry = self.carries.get(&triple).copied()?;
+        let in_time = self.timing.is_in_time(place as usize, &[carried(carry)], 1);
+        in_time.then_some(carry)
     }
 
-    /// The sum that a node is with one that it reads, if there is a carry for it.
-    fn sum(
-        &self,
-        alloc: Global,
-        place: usize,
-        inner: u32,
-        sources: Sources,
-    ) -> Result<Option<Sum>, Memory> {
-        let (Some(triple), Ok(number)) = (triple_of(self.network, &sources), u32::try_from(place))
-        else {
-            return Ok(None);
-        };
-        let Some(carry) = self.carries.get(&triple).copied() else {
-            return Ok(None);
-        };
-        if !self.timing.is_in_time(place, &[carried(carry)], 1) {
-            return Ok(None);
-        }
-        let own = table_over(alloc, self.network, number, sources.leaves())?;
-        let other = table_over(alloc, self.network, carry, sources.leaves())?;
-        let (Some(own), Some(other)) = (own, other) else {
-            return Ok(None);
-        };
-        match table_beside(own, other) {
-            Some(table) => sum_of(alloc, place, inner, carry, sources, table),
-            None => Ok(None),
-        }
+    /// The table of a node over three sources and a carry, if these are the sum and the carry of an adder.
+    fn table(&self, place: u32, carry: u32, leaves: Leaves) -> Result<Option<u16>, Memory> {
+        let Joiner { alloc, network, .. } = *self.joiner;
+        let own = table_over(alloc, network, place, leaves)?;
+        let other = table_over(alloc, network, carry, leaves)?;
+        Ok(match (own, other) {
+            (Some(own), Some(other)) => table_beside(own, other),
+            _ => None,
+        })
     }
 
-    /// The sum that a node is with one that it reads at one of its inputs.
-    fn sum_through(&self, alloc: Global, place: usize, at: usize) -> Result<Option<Sum>, Memory> {
-        let Some(node) = self.network.nodes.items().get(place) else {
+    /// The sum that a node is with one that it reads, if there is a carry of what both read.
+    fn sum(&self, place: u32, inner: u32, sources: Sources) -> Result<Option<Sum>, Memory> {
+        let Some(carry) = self.carry(place, &sources) else {
             return Ok(None);
         };
-        let Some(signal) = node.ins.items().get(at) else {
+        let leaves = sources.leaves();
+        let Some(table) = self.table(place, carry, leaves)? else {
             return Ok(None);
         };
-        let SignalSource::Node(inner) = signal.from else {
+        let mut sources = sources;
+        if !sources.add(SignalSource::Node(carry)) {
+            return Ok(None);
+        }
+        let pair = Pair {
+            node: node_of(self.joiner.alloc, &sources, table)?,
+            waits: FIRST_THREE,
+            leaves,
+        };
+        Ok(Some(Sum {
+            place,
+            inner,
+            carry,
+            pair,
+        }))
+    }
+
+    /// The sum that a node is with one that it reads at one of its inputs, and that nothing else reads.
+    fn sum_through(&self, place: u32, at: usize) -> Result<Option<Sum>, Memory> {
+        let Some(inner) = self.joiner.only_read(place, at) else {
             return Ok(None);
         };
-        match self.sources(node, inner) {
-            Some(sources) => self.sum(alloc, place, inner, sources),
+        match self.joiner.sources(place, inner) {
+            Some(sources) => self.sum(place, inner, sources),
             None => Ok(None),
         }
     }
 
     /// The sum that a node is with one of the first two that it reads.
-    fn sum_at(&self, alloc: Global, place: usize) -> Result<Option<Sum>, Memory> {
-        let first = self.sum_through(alloc, place, 0)?;
+    fn sum_at(&self, place: u32) -> Result<Option<Sum>, Memory> {
+        let first = self.sum_through(place, 0)?;
         if first.is_some() {
             return Ok(first);
         }
-        self.sum_through(alloc, place, 1)
+        self.sum_through(place, 1)
     }
 }
 
@@ -225,55 +213,40 @@ fn carried(carry: u32) -> Signal {
     }
 }
 
-/// A sum over three sources and their carry.
-fn sum_of(
-    alloc: Global,
-    place: usize,
-    inner: u32,
-    carry: u32,
-    sources: Sources,
-    table: u16,
-) -> Result<Option<Sum>, Memory> {
-    let leaves = sources.leaves();
-    let mut sources = sources;
-    if !sources.add_all(&[carried(carry)], SignalSource::Const(false)) {
-        return Ok(None);
-    }
-    let node = node_of(alloc, &sources, table)?;
-    Ok(Some(Sum {
-        place,
-        inner,
-        carry,
-        leaves,
-        node,
-    }))
+/// Whether sums of a network can be made beside carries, such that no more than so many gates stand one after another. Near linear in
+/// the network. The only error is want of memory.
+pub(crate) fn has_sums(alloc: Global, network: &Network, most: u32) -> Result<bool, Memory> {
+    let joiner = Joiner::new(alloc, network, false)?;
+    let sums = joiner.sums(most)?;
+    Ok(!sums.is_empty())
 }
 
-/// The sums of a network that can be made beside carries, such that no more than so many gates stand one after another: parities of
-/// three sources, of two nodes of which one reads the other and nothing else does, where another node is a majority of the same
-/// three. Near linear in the network. The only error is want of memory.
-pub(crate) fn sums_of(alloc: Global, network: &Network, most: u32) -> Result<Vec<Sum>, Memory> {
-    let own = vec![in alloc; 1u32; network.nodes.items().len()]?;
-    let mut finder = Finder {
-        network,
-        carries: nodes_of_three(alloc, network)?,
-        readers: Holders::of(alloc, network)?,
-        timing: Timing::of(alloc, network, &own, most)?,
-    };
-    let mut sums = Vec::new(alloc);
-    for (place, node) in network.nodes.items().iter().enumerate() {
-        match finder.sum_at(alloc, place)? {
-            Some(sum) => {
-                finder.timing.settle(place, sum.node.ins.items(), 1);
-                sums.push(sum)?;
+impl<'a> Joiner<'a> {
+    /// The sums of the network, as it was, that can be made beside carries, such that no more than so many gates stand one after
+    /// another: parities of three sources, of two nodes of which one reads the other and nothing else does, where another node is a
+    /// majority of the same three. Near linear in the network.
+    pub(crate) fn sums(&self, most: u32) -> Result<Vec<Sum>, Memory> {
+        let own = vec![in self.alloc; 1u32; self.slots.len()]?;
+        let mut finder = Finder {
+            joiner: self,
+            carries: nodes_of_three(self.alloc, self.network)?,
+            timing: Timing::of(self.alloc, self.network, &own, most)?,
+        };
+        let mut sums = Vec::new(self.alloc);
+        for (place, node) in (0..self.count()).zip(self.network.nodes.items()) {
+            match finder.sum_at(place)? {
+                Some(sum) => {
+                    finder
+                        .timing
+                        .settle(place as usize, sum.pair.node.ins.items(), 1);
+                    sums.push(sum)?;
+                }
+                None => finder.timing.settle(place as usize, node.ins.items(), 1),
             }
-            None => finder.timing.settle(place, node.ins.items(), 1),
         }
+        Ok(sums)
     }
-    Ok(sums)
-}
 
-impl Joiner {
     /// Makes a sum beside its carry, where both are as they were, the carry stands first, something else holds it, and the
     /// gates of both wait for all three sources. The carry then waits for nothing that it need not.
     fn add_sum(&mut self, sum: Sum) {
@@ -281,41 +254,28 @@ impl Joiner {
             return;
         };
         self.release(sum.place);
-        self.release(sum.inner as usize);
-        self.release(sum.carry as usize);
+        self.release(sum.inner);
+        self.release(sum.carry);
         if let Some(slot) = self.slots.get_mut(sum.carry as usize) {
             slot.waits = eager;
         }
-        let leaves = sum.leaves;
-        let pair = Pair {
-            node: sum.node,
-            waits: FIRST_THREE,
-        };
-        self.put(sum.place, leaves, pair);
-        self.drop_node(sum.inner as usize);
-        self.hold(sum.carry as usize);
+        self.put(sum.place, sum.pair);
+        self.drop_node(sum.inner);
+        self.hold(sum.carry);
         self.hold(sum.place);
     }
 
     /// What the carry of a sum waits for, if the sum can be made beside it.
     fn eager(&self, sum: &Sum) -> Option<Waits> {
-        let carry = self.slots.get(sum.carry as usize)?;
-        let outer = self.slots.get(sum.place)?;
-        let inner = self.slots.get(sum.inner as usize)?;
-        let kept = outer.state == State::Kept && inner.state == State::Kept;
-        let first = (sum.carry as usize) < sum.place;
-        let held = !self.holders.is_free(SignalSource::Node(sum.carry));
+        self.kept(sum.place)?;
+        self.kept(sum.inner)?;
+        let carry = self.kept(sum.carry)?;
+        let held = self.holding.is_held(SignalSource::Node(sum.carry));
         let eager = fit_of(&carry.node, Waits::NONE).waits;
-        if kept
-            && first
-            && held
-            && carry.state == State::Kept
-            && waits_with_last(&sum.node, &carry.node, eager)
-        {
-            Some(eager)
-        } else {
-            None
-        }
+        let can = held
+            && sum.carry < sum.place
+            && waits_with_last(&sum.pair.node, &carry.node, eager);
+        can.then_some(eager)
     }
 
     /// Makes all sums beside their carries that can be.

@@ -3,7 +3,7 @@ use crate::borrowing::{Wanted, borrowed};
 use crate::cone::Leaves;
 use crate::cone_table::cone_table;
 use crate::cut::{Cut, NodeCuts, network_cuts, source_of};
-use crate::drafting::draft;
+use crate::drafting::{Inputs, draft};
 use crate::evaluating::Choice;
 use crate::freeing::{cone_of, freed, readers_of};
 use crate::leaves::{Made, leaves_of, reached_leaves};
@@ -219,7 +219,8 @@ impl Chooser {
     fn plan(&mut self, alloc: Global, table: u16, levels: [u32; 4]) -> Result<Plan, Memory> {
         let mut steps = Vec::new(alloc);
         let args = [leaf(0), leaf(1), leaf(2), leaf(3)];
-        let out = draft(&mut self.planner, FUEL, &mut steps, table, args, levels)?;
+        let inputs = Inputs { args, levels };
+        let out = draft(&mut self.planner, FUEL, &mut steps, table, inputs)?;
         Ok(Plan { steps, out })
     }
 

@@ -11,6 +11,24 @@ const NOTHING: Arg = Arg {
     inverted: false,
 };
 
+/// The arguments of a function, and the level that each of them comes at.
+#[derive(Clone, Copy)]
+pub(crate) struct Inputs {
+    pub args: [Arg; 4],
+    pub levels: [u32; 4],
+}
+
+impl Inputs {
+    /// The same after two of them have become one, which stands in the place of the first.
+    fn joined(self, first: usize, second: usize, joint: Arg) -> Inputs {
+        let level = self.levels[first % 4].max(self.levels[second % 4]);
+        let mut inputs = self;
+        inputs.args[first % 4] = joint;
+        inputs.levels[first % 4] = level.saturating_add(1);
+        inputs
+    }
+}
+
 /// An argument, turned where the bit says so.
 fn turned(turn: bool, arg: Arg) -> Arg {
     Arg {
@@ -84,13 +102,6 @@ fn draft_short(steps: &mut Vec<Step>, table: u16, args: [Arg; 4]) -> Result<Arg,
     }
 }
 
-/// The arguments with another in place of one.
-fn with(args: [Arg; 4], k: usize, arg: Arg) -> [Arg; 4] {
-    let mut changed = args;
-    changed[k % 4] = arg;
-    changed
-}
-
 /// Adds the step of a majority. Its last argument is the latest, which then goes through one gate alone.
 fn draft_majority(
     steps: &mut Vec<Step>,
@@ -106,14 +117,6 @@ fn draft_majority(
         turned(turns[1], args[y % 4]),
         turned(turns[0], args[x % 4]),
     )
-}
-
-/// The levels after two inputs have become one.
-fn raised(levels: [u32; 4], first: usize, second: usize) -> [u32; 4] {
-    let level = levels[first % 4].max(levels[second % 4]);
-    let mut changed = levels;
-    changed[first % 4] = level.saturating_add(1);
-    changed
 }
 
 /// The input with the least level of those that a function depends on, the last of several, but for this one.
@@ -143,16 +146,15 @@ fn balanced(table: u16, levels: [u32; 4], rule: Rule) -> Rule {
     }
 }
 
-/// Adds the steps of a function of arguments with these levels, as rules say, which is taken to need no more than the
-/// fuel.
+/// Adds the steps of a function of these inputs, as rules say, which is taken to need no more than the fuel.
 pub(crate) fn draft(
     planner: &mut Planner,
     fuel: u32,
     steps: &mut Vec<Step>,
     table: u16,
-    args: [Arg; 4],
-    levels: [u32; 4],
+    inputs: Inputs,
 ) -> Result<Arg, Memory> {
+    let Inputs { args, levels } = inputs;
     let rule = balanced(table, levels, planner.rule(12, table).rule);
     if fuel == 0 {
         return Ok(NOTHING);
@@ -161,26 +163,19 @@ pub(crate) fn draft(
     match rule {
         Rule::Short => draft_short(steps, table, args),
         Rule::Top(k, at, constant) => {
-            let rest = draft(planner, less, steps, cofactor(table, k, !at), args, levels)?;
+            let rest = draft(planner, less, steps, cofactor(table, k, !at), inputs)?;
             let x = turned(at, args[k % 4]);
             let found = step(steps, Op::And, x, turned(constant, rest), x)?;
             Ok(turned(constant, found))
         }
         Rule::Parity(k) => {
-            let rest = draft(
-                planner,
-                less,
-                steps,
-                cofactor(table, k, false),
-                args,
-                levels,
-            )?;
+            let rest = draft(planner, less, steps, cofactor(table, k, false), inputs)?;
             step(steps, Op::Differ, args[k % 4], rest, rest)
         }
         Rule::Join(first, second, op, rest) => {
             let joint = draft_short(steps, op, args)?;
-            let levels = raised(levels, first, second);
-            draft(planner, less, steps, rest, with(args, first, joint), levels)
+            let inputs = inputs.joined(first, second, joint);
+            draft(planner, less, steps, rest, inputs)
         }
         Rule::Majority(idle, first, second, third) => {
             draft_majority(steps, idle, [first, second, third], args)
@@ -192,15 +187,15 @@ pub(crate) fn draft(
         }
         Rule::Add(k, at) => {
             let apart = cofactor(table, k, false) ^ cofactor(table, k, true);
-            let change = draft(planner, less, steps, apart, args, levels)?;
-            let base = draft(planner, less, steps, cofactor(table, k, at), args, levels)?;
+            let change = draft(planner, less, steps, apart, inputs)?;
+            let base = draft(planner, less, steps, cofactor(table, k, at), inputs)?;
             let x = turned(at, args[k % 4]);
             let found = step(steps, Op::And, x, change, x)?;
             step(steps, Op::Differ, found, base, base)
         }
         Rule::Grow(k, at) => {
-            let more = draft(planner, less, steps, cofactor(table, k, !at), args, levels)?;
-            let base = draft(planner, less, steps, cofactor(table, k, at), args, levels)?;
+            let more = draft(planner, less, steps, cofactor(table, k, !at), inputs)?;
+            let base = draft(planner, less, steps, cofactor(table, k, at), inputs)?;
             let x = turned(at, args[k % 4]);
             let found = step(steps, Op::And, x, more, x)?;
             let neither = step(steps, Op::And, turned(true, found), turned(true, base), x)?;

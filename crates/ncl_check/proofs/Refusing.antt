@@ -1,5 +1,5 @@
 -- What refusals tell.
-use Rattle.ncl_check.proofs.Terms.{CellRule, IsNetFault, IsNetlist, IsRefusedText, IsShapeFault, IsShapeless, List, MOST_BYTES, NetFault, NetlistData, NoChain, Refusal, ShapeFault, TellsLine, TooLong, TooWide, length, net_line, refl, shape_line, unbuilt, unread, ℕ, ◌≡◌, ◌≢◌, ◌≤◌}
+use Rattle.ncl_check.proofs.Terms.{CellRule, IsNetFault, IsNetlist, IsNetlistText, IsRefusedText, IsShapeFault, IsShapeless, List, MOST_BYTES, NetFault, NetlistData, NoChain, Refusal, ShapeFault, TellsLine, TooLong, TooWide, length, net_line, refl, shape_line, shapeless, unbuilt, unread, ℕ, ◌≡◌, ◌≢◌, ◌≤◌}
 use Rattle.ncl_reader.specs.declared.net_fault.NetFault.TheVariants as net
 use Rattle.ncl_shape.specs.declared.fault.ShapeFault.TheVariants.{Memory}
 use Rattle.ncl_check.specs.declared.text.Refusal.TheVariants as refusal
@@ -12,6 +12,10 @@ TellsLine-weaker kind other follows refusal.Memory h = tt
 -- what tells one line tells it where something holds besides
 pub TellsLine-with : {A : Type 0} → A → (line : List ℕ) → (r : Refusal) → TellsLine (λ text. text ≡ line) r → TellsLine (λ text. A × (text ≡ line)) r
 TellsLine-with {A} holds line r h = TellsLine-weaker (λ text. text ≡ line) (λ text. A × (text ≡ line)) (λ text is. (holds, is)) r h
+
+-- what tells why a netlist has no shape tells why its text is that of no pipeline
+pub shapeless_told : (bytes : List ℕ) (n : NetlistData) → IsNetlistText bytes n → (r : Refusal) → TellsLine (IsShapeless n) r → TellsLine (IsRefusedText bytes) r
+shapeless_told bytes n text r h = TellsLine-weaker (IsShapeless n) (IsRefusedText bytes) (shapeless n text) r h
 
 -- the first rule of shape that a netlist breaks is told
 pub shape_told : (n : NetlistData) → IsNetlist n → (fault : ShapeFault) → fault ≢ Memory → IsShapeFault n fault → IsShapeless n (shape_line n fault)

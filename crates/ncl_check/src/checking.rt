@@ -1,20 +1,19 @@
 //! The check of a netlist.
-ghost use Rattle.std.specs.Prelude.{◌≡◌, ◌≤◌, ℕ, List, IfOk};
-ghost use Rattle.ncl_check.specs.Text.{IsRefusedText};
-ghost use Rattle.ncl_check.specs.Refusals.{TellsLine};
+ghost use Rattle.std.specs.Prelude.{◌≡◌, ◌≤◌, IfOk};
 ghost use Rattle.ncl_check.specs.Reply.{IsCheckReply, IsVerdictText, outcome_of, verdict_on};
 ghost use Rattle.ncl_check.specs.Headline.{IsDelayInsensitiveText};
 ghost use Rattle.ncl_check.specs.Refusal.{IsWrongText};
-ghost use Rattle.ncl_check.specs.declared.reply.Outcome.TheVariants.{Accepted, Refused, NoPipeline};
+ghost use Rattle.ncl_check.specs.declared.reply.Outcome.TheVariants.{Accepted, Refused};
 
 use crate::explaining::why_text;
+use crate::judging::Judging;
+use crate::no_pipeline::refused;
 use crate::reply::{Outcome, Reply};
-use crate::text::{Refusal, netlist_in, pipeline_in};
+use crate::text::{netlist_in, pipeline_in};
 use ncl_base::Memory;
 use ncl_lines::verdict_text;
 use ncl_shape::Pipeline;
 use ncl_verdict::{Judge, judge_par};
-use std::alloc::Global;
 use std::thread::Threads;
 
 /// The most threads that judge stages of one pipeline.
@@ -29,9 +28,7 @@ pub const PARTS: u32 = 4;
 /// only. Linear in the bytes and cells but for look-ups of names and the judgement, which goes
 /// through each stage once, and again from each of its bits and gates on. The stages are judged by up to four threads.
 pub fn check<R: Threads + Sync, J: Judge + Sync>(
-    rt: &R,
-    alloc: Global,
-    judge: &J,
+    judging: &Judging<'_, R, J>,
     bytes: &[u8],
     limit: u32,
     why: bool,
@@ -41,36 +38,19 @@ pub fn check<R: Threads + Sync, J: Judge + Sync>(
     ensures headline { IfOk result (λ reply. reply.outcome ≡ Accepted → IsDelayInsensitiveText bytes.now) }
     ensures refusal { IfOk result (λ reply. reply.outcome ≡ Refused → IsWrongText limit bytes.now reply.text.items) }
 {
-    let netlist = match netlist_in(alloc, bytes) {
+    let netlist = match netlist_in(judging.alloc, bytes) {
         Ok(netlist) => netlist,
         Err(refusal) => return refused(refusal),
     };
-    let pipeline = match pipeline_in(alloc, &netlist) {
-        Ok(pipeline) => pipeline,
-        Err(refusal) => return refused(refusal),
-    };
-    judged(rt, alloc, judge, &pipeline, limit, why)
-}
-
-/// The reply to bytes that are the text of no pipeline.
-fn refused(refusal: Refusal) -> Result<Reply, Memory>
-    ensures outcome { IfOk result (λ reply. reply.outcome ≡ NoPipeline) }
-    ensures text { (bytes : List ℕ) → TellsLine (IsRefusedText bytes) refusal → IfOk result (λ reply. IsRefusedText bytes reply.text.items) }
-{
-    match refusal {
-        Refusal::Told(text) => Ok(Reply {
-            outcome: Outcome::NoPipeline,
-            text,
-        }),
-        Refusal::Memory => Err(Memory),
+    match pipeline_in(judging.alloc, &netlist) {
+        Ok(pipeline) => judged(judging, &pipeline, limit, why),
+        Err(refusal) => refused(refusal),
     }
 }
 
 /// The reply to a pipeline: its judgement, and, with `why`, what explains an orphan.
 fn judged<R: Threads + Sync, J: Judge + Sync>(
-    rt: &R,
-    alloc: Global,
-    judge: &J,
+    judging: &Judging<'_, R, J>,
     pipeline: &Pipeline,
     limit: u32,
     why: bool,
@@ -80,13 +60,20 @@ fn judged<R: Threads + Sync, J: Judge + Sync>(
     ensures text { IfOk result (λ reply. IsVerdictText why limit pipeline.now reply.text.items) }
 {
     pipeline.facts();
-    let verdict = judge_par(rt, alloc, judge, pipeline, limit, PARTS)?;
+    let verdict = judge_par(
+        judging.rt,
+        judging.alloc,
+        judging.judge,
+        pipeline,
+        limit,
+        PARTS,
+    )?;
     let outcome = Outcome::of(&verdict);
-    let mut text = verdict_text(alloc, pipeline, &verdict, limit)?;
+    let mut text = verdict_text(judging.alloc, pipeline, &verdict, limit)?;
     if !why {
         return Ok(Reply { outcome, text });
     }
-    let lines = why_text(alloc, pipeline, &verdict, limit)?;
+    let lines = why_text(judging.alloc, pipeline, &verdict, limit)?;
     text.extend_from_slice(&lines)?;
     Ok(Reply { outcome, text })
 }

@@ -7,11 +7,12 @@
 //! The line of `nclc check` and its status, by four threads at most:
 //!
 //! ```
-//! use ncl_check::{Outcome, check};
+//! use ncl_check::{Judging, Outcome, check};
 //! use ncl_verdict::Stages;
 //!
 //! let bytes = fs::read(rt, "adder.v")?;
-//! let reply = check(rt, rt.alloc(), &Stages, &bytes, 100_000, false)?;
+//! let judging = Judging { rt, alloc: rt.alloc(), judge: &Stages };
+//! let reply = check(&judging, &bytes, 100_000, false)?;
 //! rt.write_all(&reply.text)?;
 //! anyhow::ensure!(reply.outcome == Outcome::Accepted, "not delay-insensitive");
 //! ```
@@ -19,11 +20,15 @@
 
 mod checking;
 mod explaining;
+mod judging;
 pub mod laws;
+mod no_pipeline;
 mod reply;
 mod text;
 
 pub use checking::{PARTS, check};
 pub use explaining::why_text;
+pub use judging::Judging;
+pub use no_pipeline::refused;
 pub use reply::{Outcome, Reply};
 pub use text::{Refusal, netlist_in, pipeline_in};

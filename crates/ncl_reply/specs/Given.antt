@@ -2,8 +2,6 @@
 use Rattle.std.specs.Prelude.{◌≡◌, ℕ, ◌<◌, List, length, Option, IfSome}
 use Rattle.ncl_base.specs.declared.source.TheConstants.{MOST_BYTES}
 use Rattle.ncl_base.specs.Files.{Files, bytes_of}
-use Rattle.ncl_netlist.specs.Netlist.{NetlistData}
-use Rattle.ncl_check.specs.Text.{IsNetlistText, IsRefusedText}
 
 -- bytes that a load of the named file can give: those that are held under the name, where the source
 -- tells its files, and any where it tells nothing
@@ -16,14 +14,8 @@ pub record IsTooLong (told : Option Files) (name : List ℕ) : Type 0 where
   pub given : IsGiven told name bytes
   pub many : MOST_BYTES < length bytes
 
--- the file has the text of this netlist
-pub record IsNetlistFile (told : Option Files) (name : List ℕ) (n : NetlistData) : Type 0 where
+-- what stands in this relation to bytes of the file: what they say, or the line that tells why they are refused
+pub record ComesFrom {A : Type 0} (told : Option Files) (name : List ℕ) (relation : List ℕ → A → Type 0) (what : A) : Type 0 where
   pub bytes : List ℕ
   pub given : IsGiven told name bytes
-  pub text : IsNetlistText bytes n
-
--- the file has the text of no netlist, or of none with a shape, and this line tells why
-pub record IsRefusedFile (told : Option Files) (name line : List ℕ) : Type 0 where
-  pub bytes : List ℕ
-  pub given : IsGiven told name bytes
-  pub refused : IsRefusedText bytes line
+  pub is : relation bytes what

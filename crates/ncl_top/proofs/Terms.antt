@@ -1,5 +1,5 @@
 -- What the proofs of this crate take from the library, the crates below and its own definitions, passed on.
-pub use Rattle.std.proofs.Common.{Bool, Err, IsTrue, List, None, Ok, Option, Result, Some, [], ap, arith, false, get_or, if◌then◌else◌, inl, inr, length, map, min, not, refl, rules, subst, sym, true, ℕ, ◌*◌, ◌++◌, ◌+◌, ◌-◌, ◌<◌, ◌==◌, ◌∙◌, ◌∷◌, ◌≡◌, ◌≢◌, ◌≤◌, ◌⊎◌}
+pub use Rattle.std.proofs.Common.{Bool, Err, IfOk, IsTrue, List, None, Ok, Option, Result, Some, [], ap, arith, false, get_or, if◌then◌else◌, inl, inr, length, map, min, not, refl, rules, subst, sym, true, ℕ, ◌*◌, ◌++◌, ◌+◌, ◌-◌, ◌<◌, ◌==◌, ◌∙◌, ◌∷◌, ◌≡◌, ◌≢◌, ◌≤◌, ◌⊎◌}
 pub use Rattle.std.proofs.lemmas.Bool.{and_from, and_parts, both_ways, cases_Bool, eqb-true}
 pub use Rattle.std.proofs.lemmas.Bool.Decides.{nat_tests}
 pub use Rattle.std.proofs.lemmas.List.{ext_get_or, length-map}
@@ -7,7 +7,7 @@ pub use Rattle.std.proofs.lemmas.List.Elements.{All-contains, recursion_from_All
 pub use Rattle.std.proofs.lemmas.List.FromFn.{length-range_with_len}
 pub use Rattle.std.proofs.lemmas.Option.{slice_get_within}
 pub use Rattle.std.specs.List.{AllByRecursion, AllZip, list_all, list_any, range_with_len}
-pub use Rattle.std.specs.Prelude.{All, Contains, codes, filter, nat_eq, nat_lt}
+pub use Rattle.std.specs.Prelude.{All, Contains, IsErrAnd, codes, filter, nat_eq, nat_lt}
 pub use Rattle.ncl_base.proofs.Members.{All-from_members, Contains-from_Member, Contains-from_slice_get, Member, Member-filter, Member-from_Contains, Member-map, here, member_cases, member_from_list_any, member_of_map, recursion_from_members, slice_get-from_Contains, slice_get-some, there}
 pub use Rattle.ncl_base.proofs.Tests.{option_or-none}
 pub use Rattle.ncl_base.specs.Files.{Files, Grew, Rose, bytes_of}
@@ -32,10 +32,12 @@ pub use Rattle.ncl_check.proofs.Replying.{pipeline_text}
 pub use Rattle.ncl_check.proofs.Wrong.{text_wrong}
 pub use Rattle.ncl_check.specs.Headline.{IsDelayInsensitiveText}
 pub use Rattle.ncl_check.specs.Refusal.{IsWrongText}
+pub use Rattle.ncl_check.specs.Refusals.{TellsLine}
 pub use Rattle.ncl_check.specs.Reply.{IsCheckReply, outcome_of, refused, verdict_on}
-pub use Rattle.ncl_check.specs.Text.{IsPipelineText, IsRefusedText, IsShapeless, shapeless}
+pub use Rattle.ncl_check.specs.Text.{IsNetlistText, IsPipelineText, IsRefusedText, IsShapeless, shapeless}
 pub use Rattle.ncl_check.specs.declared.reply.Outcome.{Outcome}
 pub use Rattle.ncl_check.specs.declared.reply.Outcome.TheVariants.{Accepted, NoPipeline, Refused, Unjudged}
+pub use Rattle.ncl_check.specs.declared.text.Refusal.{Refusal}
 pub use Rattle.ncl_command.specs.Command.{Arguments, Command, check, command_of, compile, demo, matching, sim}
 pub use Rattle.ncl_command.specs.Meaning.{command_meant}
 pub use Rattle.ncl_command.specs.declared.command.TheConstants.{MOST_NODES as LIMIT, MOST_NODES}
@@ -81,11 +83,11 @@ pub use Rattle.ncl_netlist.specs.declared.ids.NetId.{NetId}
 pub use Rattle.ncl_netlist.specs.declared.parts.PartCell.{PartCell}
 pub use Rattle.ncl_reader.proofs.GraphicNames.{graphic_more, graphic_names, graphic_word}
 pub use Rattle.ncl_reader.specs.GraphicNames.{HasGraphicNames}
-pub use Rattle.ncl_reply.proofs.Refusals.{IfErr-long, Refuses-weaker, Replies-long, Replies-refused, Replies-told}
+pub use Rattle.ncl_reply.proofs.Refusals.{IfErr-long, Refuses-weaker, Replies-from, Replies-long, Replies-told}
 pub use Rattle.ncl_reply.proofs.Statuses.{accepted_by_status, refused_by_status}
 pub use Rattle.ncl_reply.specs.Devices.{CameOut, SinkState, SourceState, cut_short, whole}
-pub use Rattle.ncl_reply.specs.Given.{IsRefusedFile}
-pub use Rattle.ncl_reply.specs.Replies.{Gives, Refuses, Replies}
+pub use Rattle.ncl_reply.specs.Given.{ComesFrom, IsGiven}
+pub use Rattle.ncl_reply.specs.Replies.{Gives, Refuses, Replies, fault_of}
 pub use Rattle.ncl_reply.specs.Status.{status_of}
 pub use Rattle.ncl_reply.specs.declared.fault.Fault.{Fault}
 pub use Rattle.ncl_reply.specs.declared.reply.Reply.{Reply}

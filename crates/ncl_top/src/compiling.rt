@@ -1,6 +1,7 @@
 //! What `compile` replies to models.
-ghost use Rattle.std.specs.Prelude.{◌≡◌, ◌≢◌, true, false, IfOk, OnOk};
+ghost use Rattle.std.specs.Prelude.{◌≡◌, ◌≢◌, List, true, false, IfOk, OnOk};
 ghost use Rattle.ncl_blif.specs.Model.{AreModels};
+ghost use Rattle.ncl_blif.specs.declared.model.Model.{Model};
 ghost use Rattle.ncl_compile.specs.declared.fault.CompileFault.TheVariants.{Memory as CompileMemory};
 ghost use Rattle.ncl_top.specs.CompileText.{compile_line};
 ghost use Rattle.ncl_compile.specs.Compiled.{Compiled};
@@ -26,44 +27,37 @@ pub(crate) fn compile_models(alloc: Global, models: &[Model], merged: bool) -> R
     ensures { IfOk result (Gives (IsModelsReply models.now merged)) }
 {
     match compile(alloc, models) {
-        Ok(netlist) => Ok(Reply::Made(0, compiled_text(alloc, models, netlist, merged)?)),
+        Ok(netlist) => Ok(Reply::Made(0, compiled_text(alloc, netlist, merged)?)),
         Err(fault) => Ok(Reply::Made(3, too_large_text(alloc, fault)?)),
     }
 }
 
 /// The text that is written of a netlist that is compiled from models: its own, or that of what it is merged to.
-fn compiled_text(
-    alloc: Global,
-    models: &[Model],
-    netlist: Netlist,
-    merged: bool,
-) -> Result<Vec<u8>, Memory>
-    requires { Compiled models.now netlist }
-    ensures { IfOk result (λ text. IsCompiledText models.now netlist merged text.items) }
+fn compiled_text(alloc: Global, netlist: Netlist, merged: bool) -> Result<Vec<u8>, Memory>
+    requires { (models : List Model) × Compiled models netlist }
+    ensures { (models : List Model) → Compiled models netlist → IfOk result (λ text. IsCompiledText models netlist merged text.items) }
 {
     if merged {
-        merged_text(alloc, models, netlist)
+        merged_text(alloc, netlist)
     } else {
-        plain_text(alloc, models, netlist)
+        plain_text(alloc, netlist)
     }
 }
 
 /// The text of a netlist that is compiled from models.
-fn plain_text(alloc: Global, models: &[Model], netlist: Netlist) -> Result<Vec<u8>, Memory>
-    requires { Compiled models.now netlist }
-    ensures { IfOk result (λ text. IsCompiledText models.now netlist false text.items) }
+fn plain_text(alloc: Global, netlist: Netlist) -> Result<Vec<u8>, Memory>
+    requires { (models : List Model) × Compiled models netlist }
+    ensures { (models : List Model) → Compiled models netlist → IfOk result (λ text. IsCompiledText models netlist false text.items) }
 {
-    let _ = models;
     let text = write_netlist(alloc, &netlist)?;
     Ok(text)
 }
 
 /// The text of what such a netlist is merged to.
-fn merged_text(alloc: Global, models: &[Model], netlist: Netlist) -> Result<Vec<u8>, Memory>
-    requires { Compiled models.now netlist }
-    ensures { IfOk result (λ text. IsCompiledText models.now netlist true text.items) }
+fn merged_text(alloc: Global, netlist: Netlist) -> Result<Vec<u8>, Memory>
+    requires { (models : List Model) × Compiled models netlist }
+    ensures { (models : List Model) → Compiled models netlist → IfOk result (λ text. IsCompiledText models netlist true text.items) }
 {
-    let _ = models;
     let folded = merge(alloc, netlist)?;
     let text = write_netlist(alloc, &folded)?;
     Ok(text)

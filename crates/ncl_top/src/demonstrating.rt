@@ -7,7 +7,7 @@ ghost use Rattle.ncl_reply.specs.Replies.{Gives};
 ghost use Rattle.ncl_top.specs.Demonstrating.{IsDemoNetlist, IsDemoPipeline, IsDemoReply};
 
 use ncl_base::Memory;
-use ncl_check::PARTS;
+use ncl_check::{Judging, PARTS};
 use ncl_command::MOST_NODES;
 use ncl_compile::{CompileFault, compile};
 use ncl_delay::Delays;
@@ -22,23 +22,28 @@ use ncl_writer::write_netlist;
 use std::alloc::Global;
 use std::thread::Threads;
 
+/// The adder of so many bits, as the pipeline that is shown.
+#[derive(Drop)]
+struct Demo<'a> {
+    bits: u32,
+    pipeline: Pipeline<'a>,
+}
+
 /// Makes the adder of so many bits, compiles and judges it, runs it over eight words in which every item takes the time
 /// 1, and replies with its size, the words with their sums, and how the run ends; where a stage passes the usual limit
 /// of nodes, with the verdict and the netlist.
 ///
 /// Costs what compiling, the check and the run cost.
 pub(crate) fn demonstrate<R: Threads + Sync, J: Judge + Sync>(
-    rt: &R,
-    alloc: Global,
-    judge: &J,
+    judging: &Judging<'_, R, J>,
     bits: u32,
 ) -> Result<Reply, Memory>
     requires { (1 ≤ bits) × (bits ≤ 32) }
     ensures { IfOk result (Gives (IsDemoReply bits)) }
 {
-    let netlist = demo_netlist(alloc, bits)?;
-    let pipeline = demo_pipeline(alloc, &netlist, bits)?;
-    judged(rt, alloc, judge, &pipeline, bits)
+    let netlist = demo_netlist(judging.alloc, bits)?;
+    let demo = demo_of(judging.alloc, &netlist, bits)?;
+    judged(judging, &demo)
 }
 
 /// The netlist that is compiled from the models of the adder of so many bits.
@@ -54,14 +59,14 @@ fn demo_netlist(alloc: Global, bits: u32) -> Result<Netlist, Memory>
     }
 }
 
-/// The pipeline of that netlist.
-fn demo_pipeline<'a>(alloc: Global, netlist: &'a Netlist, bits: u32) -> Result<Pipeline<'a>, Memory>
+/// The demo of so many bits, of the pipeline of that netlist.
+fn demo_of<'a>(alloc: Global, netlist: &'a Netlist, bits: u32) -> Result<Demo<'a>, Memory>
     requires { IsDemoNetlist bits netlist.now }
-    ensures { IfOk result (λ p. IsDemoPipeline bits p) }
+    ensures demo { IfOk result (λ demo. IsDemoPipeline demo.bits demo.pipeline) }
+    ensures bits { IfOk result (λ demo. demo.bits ≡ bits) }
 {
-    let _ = bits;
     match shape(alloc, netlist) {
-        Ok(pipeline) => Ok(pipeline),
+        Ok(pipeline) => Ok(Demo { bits, pipeline }),
         Err(fault) => match fault {
             ShapeFault::Memory => Err(Memory),
             _ => unreachable!(),
@@ -69,54 +74,52 @@ fn demo_pipeline<'a>(alloc: Global, netlist: &'a Netlist, bits: u32) -> Result<P
     }
 }
 
-/// The reply to the demo of that pipeline, once it is judged.
+/// The reply to the demo, once its pipeline is judged.
 fn judged<R: Threads + Sync, J: Judge + Sync>(
-    rt: &R,
-    alloc: Global,
-    judge: &J,
-    pipeline: &Pipeline,
-    bits: u32,
+    judging: &Judging<'_, R, J>,
+    demo: &Demo<'_>,
 ) -> Result<Reply, Memory>
-    requires bits { (1 ≤ bits) × (bits ≤ 32) }
-    requires pipeline { IsDemoPipeline bits pipeline.now }
-    ensures { IfOk result (Gives (IsDemoReply bits)) }
+    requires bits { (1 ≤ demo.now.bits) × (demo.now.bits ≤ 32) }
+    requires pipeline { IsDemoPipeline demo.now.bits demo.now.pipeline }
+    ensures { IfOk result (Gives (IsDemoReply demo.now.bits)) }
 {
-    let verdict = judge_par(rt, alloc, judge, pipeline, MOST_NODES, PARTS)?;
+    let verdict = judge_par(
+        judging.rt,
+        judging.alloc,
+        judging.judge,
+        &demo.pipeline,
+        MOST_NODES,
+        PARTS,
+    )?;
     match &verdict {
-        Verdict::Accepted => shown(alloc, pipeline, bits),
-        Verdict::Limit { .. } => too_large(alloc, pipeline, &verdict, bits),
+        Verdict::Accepted => shown(judging.alloc, demo),
+        Verdict::Limit { .. } => too_large(judging.alloc, demo, &verdict),
         _ => unreachable!(),
     }
 }
 
-/// The reply to the demo of a pipeline that is accepted: its run.
-fn shown(alloc: Global, pipeline: &Pipeline, bits: u32) -> Result<Reply, Memory>
-    requires bits { (1 ≤ bits) × (bits ≤ 32) }
-    requires pipeline { IsDemoPipeline bits pipeline.now }
-    requires accepted { verdict_on LIMIT pipeline.now ≡ IsAccepted }
-    ensures { IfOk result (Gives (IsDemoReply bits)) }
+/// The reply to a demo whose pipeline is accepted: its run.
+fn shown(alloc: Global, demo: &Demo<'_>) -> Result<Reply, Memory>
+    requires bits { (1 ≤ demo.now.bits) × (demo.now.bits ≤ 32) }
+    requires pipeline { IsDemoPipeline demo.now.bits demo.now.pipeline }
+    requires accepted { verdict_on LIMIT demo.now.pipeline ≡ IsAccepted }
+    ensures { IfOk result (Gives (IsDemoReply demo.now.bits)) }
 {
-    let words = demo_words(alloc, bits)?;
+    let words = demo_words(alloc, demo.bits)?;
     let delays = Delays::unit(alloc);
-    let trace = simulate(alloc, pipeline, &delays, &words)?;
-    let text = demo_text(alloc, bits, pipeline, &trace, &words)?;
+    let trace = simulate(alloc, &demo.pipeline, &delays, &words)?;
+    let text = demo_text(alloc, demo.bits, &demo.pipeline, &trace, &words)?;
     Ok(Reply::Made(0, text))
 }
 
-/// The reply to the demo of a pipeline of which a stage passes the limit of nodes: the verdict and the netlist.
-fn too_large(
-    alloc: Global,
-    pipeline: &Pipeline,
-    verdict: &Verdict,
-    bits: u32,
-) -> Result<Reply, Memory>
-    requires pipeline { IsDemoPipeline bits pipeline.now }
-    requires limit { (stage : ℕ) × (verdict.now ≡ PassesLimit stage) × (verdict_on LIMIT pipeline.now ≡ PassesLimit stage) }
-    ensures { IfOk result (Gives (IsDemoReply bits)) }
+/// The reply to a demo of whose pipeline a stage passes the limit of nodes: the verdict and the netlist.
+fn too_large(alloc: Global, demo: &Demo<'_>, verdict: &Verdict) -> Result<Reply, Memory>
+    requires pipeline { IsDemoPipeline demo.now.bits demo.now.pipeline }
+    requires limit { (stage : ℕ) × (verdict.now ≡ PassesLimit stage) × (verdict_on LIMIT demo.now.pipeline ≡ PassesLimit stage) }
+    ensures { IfOk result (Gives (IsDemoReply demo.now.bits)) }
 {
-    let _ = bits;
-    let line = verdict_text(alloc, pipeline, verdict, MOST_NODES)?;
-    let netlist = write_netlist(alloc, pipeline.netlist())?;
+    let line = verdict_text(alloc, &demo.pipeline, verdict, MOST_NODES)?;
+    let netlist = write_netlist(alloc, demo.pipeline.netlist())?;
     Ok(Reply::Made(6, joined(line, &netlist)?))
 }
 

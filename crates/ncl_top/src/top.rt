@@ -4,10 +4,12 @@ ghost use Rattle.ncl_base.specs.declared.source.TheConstants.{MOST_BYTES};
 ghost use Rattle.ncl_command.specs.Command.{AllowsNamed, command_of, count_named};
 ghost use Rattle.ncl_top.specs.Answer.{Says, AcceptsWhatWorks};
 ghost use Rattle.ncl_top.specs.Answered.{IsAnswered};
+ghost use Rattle.ncl_reply.specs.Devices.{IsServed};
 ghost use Rattle.ncl_reply.specs.Replies.{Gives};
 
 use crate::carrying::carry_out;
 use ncl_base::{Sink, Source};
+use ncl_check::Judging;
 use ncl_command::Command;
 use ncl_reply::{Fault, Reply, tell};
 use ncl_verdict::{Judge, Stages};
@@ -54,17 +56,20 @@ pub fn run<R: Threads + Sync, S: Source, K: Sink>(
     ensures given { S.given source.new ≤ S.given source.old
         + count_named (command_of (map (λ argument. argument.now) arguments.now)) * (MOST_BYTES + 1) }
 {
-    run_by(rt, alloc, arguments, source, sink, &Stages)
+    let judging = Judging {
+        rt,
+        alloc,
+        judge: &Stages,
+    };
+    run_by(&judging, arguments, source, sink)
 }
 
 /// Answers as `run` does, and has each stage judged by a judge of the caller's.
 pub fn run_by<R: Threads + Sync, S: Source, K: Sink, J: Judge + Sync>(
-    rt: &R,
-    alloc: Global,
+    judging: &Judging<'_, R, J>,
     arguments: &[&str],
     source: &mut S,
     sink: &mut K,
-    judge: &J,
 ) -> u8
     requires { AllowsNamed (S.allowed source.old) (map (λ argument. argument.now) arguments.now) }
     ensures answered { IsAnswered (map (λ argument. argument.now) arguments.now)
@@ -79,7 +84,7 @@ pub fn run_by<R: Threads + Sync, S: Source, K: Sink, J: Judge + Sync>(
     ensures given { S.given source.new ≤ S.given source.old
         + count_named (command_of (map (λ argument. argument.now) arguments.now)) * (MOST_BYTES + 1) }
 {
-    match answer(rt, alloc, arguments, source, judge) {
+    match answer(judging, arguments, source) {
         Reply::Made(status, text) => tell(sink, status, &text),
         Reply::Fixed(status, text) => tell(sink, status, text),
     }
@@ -87,30 +92,23 @@ pub fn run_by<R: Threads + Sync, S: Source, K: Sink, J: Judge + Sync>(
 
 /// What the arguments are answered.
 fn answer<R: Threads + Sync, S: Source, J: Judge + Sync>(
-    rt: &R,
-    alloc: Global,
+    judging: &Judging<'_, R, J>,
     arguments: &[&str],
     source: &mut S,
-    judge: &J,
 ) -> Reply
     requires { AllowsNamed (S.allowed source.old) (map (λ argument. argument.now) arguments.now) }
     ensures says { Gives (Says (map (λ argument. argument.now) arguments.now)
         (record { files = S.files source.old; faults = S.faults source.old })
         (record { files = S.files source.new; faults = S.faults source.new })) result }
-    ensures files { S.files source.new ≡ S.files source.old }
-    ensures allowed { S.allowed source.new ≡ S.allowed source.old }
-    ensures faults { S.faults source.old ≤ S.faults source.new }
-    ensures opens { S.opens source.new
-        ≤ S.opens source.old + count_named (command_of (map (λ argument. argument.now) arguments.now)) }
-    ensures given { S.given source.new ≤ S.given source.old
-        + count_named (command_of (map (λ argument. argument.now) arguments.now)) * (MOST_BYTES + 1) }
+    ensures source { IsServed S.files S.allowed S.faults S.opens S.given source.old source.new
+        (count_named (command_of (map (λ argument. argument.now) arguments.now))) }
 {
-    let command = match Command::parse(alloc, arguments) {
+    let command = match Command::parse(judging.alloc, arguments) {
         Ok(Some(command)) => command,
         Ok(None) => return Reply::Fixed(2, b"words not understood\n"),
         Err(_) => return Reply::Fixed(7, b"out of memory\n"),
     };
-    match carry_out(rt, alloc, source, judge, command) {
+    match carry_out(judging, source, command) {
         Ok(reply) => reply,
         Err(Fault::Refused(line)) => Reply::Made(3, line),
         Err(Fault::Read) => Reply::Fixed(4, b"read failed\n"),

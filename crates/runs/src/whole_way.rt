@@ -7,7 +7,7 @@ ghost use Rattle.ncl_reader.specs.GraphicNames.{HasGraphicNames};
 
 use ncl_base::{MOST_BITS, MOST_BYTES, Word};
 use ncl_blif::{Model, read_blif};
-use ncl_check::{PARTS, check};
+use ncl_check::{Judging, PARTS, check};
 use ncl_compile::compile;
 use ncl_delay::{Delays, MOST_WORDS, read_delays, read_words};
 use ncl_match::{Bits, Compared, compare};
@@ -70,7 +70,12 @@ fn merged_text(alloc: Global, models: &[Model]) -> anyhow::Result<Vec<u8>>
 fn print_checked<R: Threads + Sync + AllocGlobal + Print>(rt: &R, text: &[u8]) -> anyhow::Result<()>
     requires { length text.now ≤ MOST_BYTES }
 {
-    let told = check(rt, rt.alloc(), &Stages, text, NODES, false)?;
+    let judging = Judging {
+        rt,
+        alloc: rt.alloc(),
+        judge: &Stages,
+    };
+    let told = check(&judging, text, NODES, false)?;
     rt.write_all(&told.text)?;
     Ok(())
 }

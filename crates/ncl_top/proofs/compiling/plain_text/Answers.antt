@@ -3,7 +3,7 @@ use Rattle.ncl_top.proofs.PlainNames.{writable}
 use Rattle.ncl_top.proofs.compiling.plain_text.Goals as goal
 
 pub write_netlist-requires : goal.write_netlist-requires
-write_netlist-requires c = writable c.args.models.now c.args.netlist c.requires
+write_netlist-requires c = writable c.requires.0 c.args.netlist c.requires.1
 
 pub returns : goal.returns
-returns c = subst (IsCompiledText c.args.models.now c.args.netlist false) (sym c.in_ok-text.ensures.text) (plain refl)
+returns c = λ models of. subst (IsCompiledText models c.args.netlist false) (sym c.in_ok-text.ensures.text) (plain refl)

@@ -1,11 +1,6 @@
 -- How the parts of a reply come to the whole.
-use Rattle.ncl_reach_top.proofs.Terms.{Accepted, Err, IfOk, IfOk-weaker, IsDelayInsensitive, IsDelayInsensitiveText, IsPipelineReply, IsPipelineText, IsReachReply, IsRefusedText, IsWrongFor, IsWrongForInput, List, Memory, NoPipeline, Ok, Outcome, PipelineData, Refused, Reply, Result, Shape, delay_insensitive, held, judgement-sound, never, past, reached-insensitive, refl, refused, shown, shown-sensitive, sound, subst, sym, ℕ, ◌≡◌}
+use Rattle.ncl_reach_top.proofs.Terms.{Accepted, IfOk, IfOk-weaker, IsDelayInsensitive, IsDelayInsensitiveText, IsPipelineReply, IsPipelineText, IsReachReply, IsWrongFor, IsWrongForInput, List, Memory, Outcome, PipelineData, Refused, Reply, Result, Shape, delay_insensitive, held, judgement-sound, never, past, reached-insensitive, refl, refused, shown, shown-sensitive, sound, subst, ℕ, ◌≡◌}
 use Rattle.ncl_reach_top.specs.Reply.{replied}
-
--- the reply that tells why bytes are the text of no pipeline
-pub refused_reply : (limit : ℕ) (bytes : List ℕ) (r : Result Reply Memory) → IfOk r (λ reply. reply.outcome ≡ NoPipeline) → IfOk r (λ reply. IsRefusedText bytes reply.text.items) → IfOk r (λ reply. IsReachReply limit bytes reply.outcome reply.text.items)
-refused_reply limit bytes (Ok reply) ends none = subst (λ outcome. IsReachReply limit bytes outcome reply.text.items) (sym ends) (refused reply.text.items none)
-refused_reply limit bytes (Err memory) ends none = tt
 
 -- the reply to their pipeline
 pub pipeline_reply : (limit : ℕ) (bytes : List ℕ) (p : PipelineData) → IsPipelineText bytes p → (r : Result Reply Memory) → IfOk r (λ reply. IsPipelineReply limit p reply.outcome reply.text.items) → IfOk r (λ reply. IsReachReply limit bytes reply.outcome reply.text.items)

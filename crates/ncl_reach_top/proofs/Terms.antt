@@ -6,12 +6,12 @@ pub use Rattle.ncl_base.proofs.Members.{All-from_members}
 pub use Rattle.ncl_base.proofs.Places.{no_entry}
 pub use Rattle.ncl_base.specs.Files.{Files, Grew, bytes_of}
 pub use Rattle.ncl_base.specs.declared.memory.Memory.{Memory}
-pub use Rattle.ncl_check.proofs.Refusing.{TellsLine-weaker}
-pub use Rattle.ncl_check.proofs.Replying.{pipeline_text}
+pub use Rattle.ncl_check.proofs.Refusing.{shapeless_told}
+pub use Rattle.ncl_check.proofs.Replying.{pipeline_text, refused_reply}
 pub use Rattle.ncl_check.specs.Headline.{IsDelayInsensitiveText}
-pub use Rattle.ncl_check.specs.Text.{IsPipelineText, IsRefusedText, IsShapeless, shapeless, too_long}
+pub use Rattle.ncl_check.specs.Text.{IsPipelineText, too_long}
 pub use Rattle.ncl_check.specs.declared.reply.Outcome.{Outcome}
-pub use Rattle.ncl_check.specs.declared.reply.Outcome.TheVariants.{Accepted, NoPipeline, Refused, Unjudged}
+pub use Rattle.ncl_check.specs.declared.reply.Outcome.TheVariants.{Accepted, Refused, Unjudged}
 pub use Rattle.ncl_check.specs.declared.reply.Reply.{Reply}
 pub use Rattle.ncl_command.specs.Command.{Arguments, check, command_of}
 pub use Rattle.ncl_faults.specs.Faults.{StageFault}

@@ -1,10 +1,8 @@
 //! What is replied to the bytes of a netlist.
-ghost use Rattle.std.specs.Prelude.{◌≡◌, ◌<◌, ◌≤◌, ◌++◌, ℕ, List, Some, None, IfOk, OnOk, IsFalse, IsTrue, codes, decimal, length};
+ghost use Rattle.std.specs.Prelude.{◌≡◌, ◌<◌, ◌≤◌, ◌++◌, Some, None, IfOk, OnOk, IsFalse, IsTrue, codes, decimal, length};
 ghost use Rattle.ncl_netlist.specs.Netlist.{NetlistData};
 ghost use Rattle.ncl_check.specs.Headline.{IsDelayInsensitiveText};
-ghost use Rattle.ncl_check.specs.Refusals.{TellsLine};
-ghost use Rattle.ncl_check.specs.Text.{IsRefusedText};
-ghost use Rattle.ncl_check.specs.declared.reply.Outcome.TheVariants.{Accepted, NoPipeline, Refused};
+ghost use Rattle.ncl_check.specs.declared.reply.Outcome.TheVariants.{Accepted, Refused};
 ghost use Rattle.ncl_check.specs.Reply.{verdict_on};
 ghost use Rattle.ncl_verdict.specs.declared.verdict.Verdict.TheVariants.{Accepted as AllSound};
 ghost use Rattle.ncl_lines.specs.Line.{line, cell_name};
@@ -13,7 +11,7 @@ ghost use Rattle.ncl_reaching.specs.declared.reaching.Reached.TheVariants.{Limit
 ghost use Rattle.ncl_reach_top.specs.Reply.{IsPipelineReply, IsReachReply, IsWrongForInput, NamesItemsOf, end_line, line_on, run_lines, with_input};
 
 use ncl_base::{Memory, Word};
-use ncl_check::{Outcome, Refusal, Reply, netlist_in, pipeline_in};
+use ncl_check::{Outcome, Reply, netlist_in, pipeline_in, refused};
 use ncl_lines::{line_of, push_number, push_steps, push_word, verdict_text};
 use ncl_netlist::CellId;
 use ncl_reaching::{Reached, WrongRun, reach};
@@ -37,24 +35,9 @@ pub fn reply(alloc: Global, bytes: &[u8], limit: u32) -> Result<Reply, Memory>
         Ok(netlist) => netlist,
         Err(refusal) => return refused(refusal),
     };
-    let pipeline = match pipeline_in(alloc, &netlist) {
-        Ok(pipeline) => pipeline,
-        Err(refusal) => return refused(refusal),
-    };
-    answered(alloc, &pipeline, limit)
-}
-
-/// The reply to bytes that are the text of no pipeline.
-fn refused(refusal: Refusal) -> Result<Reply, Memory>
-    ensures outcome { IfOk result (λ reply. reply.outcome ≡ NoPipeline) }
-    ensures text { (bytes : List ℕ) → TellsLine (IsRefusedText bytes) refusal → IfOk result (λ reply. IsRefusedText bytes reply.text.items) }
-{
-    match refusal {
-        Refusal::Told(text) => Ok(Reply {
-            outcome: Outcome::NoPipeline,
-            text,
-        }),
-        Refusal::Memory => Err(Memory),
+    match pipeline_in(alloc, &netlist) {
+        Ok(pipeline) => answered(alloc, &pipeline, limit),
+        Err(refusal) => refused(refusal),
     }
 }
 
@@ -69,7 +52,14 @@ fn answered(alloc: Global, pipeline: &Pipeline, limit: u32) -> Result<Reply, Mem
             input,
             verdict,
             run,
-        } => shown(alloc, pipeline, &input, &verdict, &run, limit),
+        } => {
+            let wrong = Wrong {
+                input,
+                verdict,
+                run,
+            };
+            shown(alloc, pipeline, &wrong, limit)
+        }
         Reached::Limit { stage } => past_limit(alloc, pipeline, stage, limit),
     }
 }
@@ -116,25 +106,26 @@ fn is_sound(alloc: Global, pipeline: &Pipeline, limit: u32) -> Result<bool, Memo
     }
 }
 
+/// What `reach` tells of an input that brings to a stage a word which shows a fault.
+#[derive(Drop)]
+struct Wrong {
+    input: Word,
+    verdict: Verdict,
+    run: Option<WrongRun>,
+}
+
 /// The reply to a pipeline of which an input brings to a stage a word that shows a fault: the line of that verdict, the input at
 /// its end, and the run, if one is told. Linear in the lines.
-fn shown(
-    alloc: Global,
-    pipeline: &Pipeline,
-    input: &Word,
-    verdict: &Verdict,
-    run: &Option<WrongRun>,
-    limit: u32,
-) -> Result<Reply, Memory>
-    requires answers { Answers pipeline.now limit (FaultShown input.now verdict.now run.now) }
-    requires wrong { GoesWrongBy pipeline.now input.now verdict.now run.now }
+fn shown(alloc: Global, pipeline: &Pipeline, wrong: &Wrong, limit: u32) -> Result<Reply, Memory>
+    requires answers { Answers pipeline.now limit (FaultShown wrong.now.input wrong.now.verdict wrong.now.run) }
+    requires wrong { GoesWrongBy pipeline.now wrong.now.input wrong.now.verdict wrong.now.run }
     ensures { IfOk result (λ reply. IsPipelineReply limit pipeline.now reply.outcome reply.text.items) }
 {
     pipeline.facts();
-    let line = verdict_text(alloc, pipeline, verdict, limit)?;
-    let mut text = behind(line, input)?;
-    if let Some(run) = run {
-        push_run(&mut text, pipeline, verdict, run)?;
+    let line = verdict_text(alloc, pipeline, &wrong.verdict, limit)?;
+    let mut text = behind(line, &wrong.input)?;
+    if let Some(run) = &wrong.run {
+        push_run(&mut text, pipeline, &wrong.verdict, run)?;
     }
     Ok(Reply {
         outcome: Outcome::Refused,

@@ -4,6 +4,7 @@ ghost use Rattle.ncl_base.specs.Files.{Rose};
 ghost use Rattle.ncl_base.specs.declared.source.TheConstants.{MOST_BYTES};
 ghost use Rattle.ncl_command.specs.Command.{AllowsNamed, HasLimit, check};
 ghost use Rattle.ncl_command.specs.Meaning.{command_meant};
+ghost use Rattle.ncl_reply.specs.Devices.{IsServed};
 ghost use Rattle.ncl_reply.specs.Replies.{Gives, Replies};
 ghost use Rattle.ncl_reach_top.specs.Answered.{IsReachAnswered, IsReachedFile, SaysReached, as_check};
 
@@ -49,11 +50,7 @@ fn answer<S: Source>(alloc: Global, arguments: &[&str], source: &mut S) -> Reply
     ensures says { Gives (SaysReached (map (λ argument. argument.now) arguments.now)
         (record { files = S.files source.old; faults = S.faults source.old })
         (record { files = S.files source.new; faults = S.faults source.new })) result }
-    ensures files { S.files source.new ≡ S.files source.old }
-    ensures allowed { S.allowed source.new ≡ S.allowed source.old }
-    ensures faults { S.faults source.old ≤ S.faults source.new }
-    ensures opens { S.opens source.new ≤ S.opens source.old + 1 }
-    ensures given { S.given source.new ≤ S.given source.old + (MOST_BYTES + 1) }
+    ensures source { IsServed S.files S.allowed S.faults S.opens S.given source.old source.new 1 }
 {
     let Ok(words) = behind_check(alloc, arguments) else {
         return Reply::Fixed(7, b"out of memory\n");
@@ -109,11 +106,7 @@ fn file_reply<S: Source>(
     requires limit { 1 ≤ limit }
     ensures replies { Replies (IsReachedFile (S.files source.old) file.now limit) result }
     ensures read { IsErrOf result Fault.Read → Rose (S.faults source.old) (S.faults source.new) }
-    ensures files { S.files source.new ≡ S.files source.old }
-    ensures allowed { S.allowed source.new ≡ S.allowed source.old }
-    ensures faults { S.faults source.old ≤ S.faults source.new }
-    ensures opens { S.opens source.new ≤ S.opens source.old + 1 }
-    ensures given { S.given source.new ≤ S.given source.old + (MOST_BYTES + 1) }
+    ensures source { IsServed S.files S.allowed S.faults S.opens S.given source.old source.new 1 }
 {
     let bytes = load_file(alloc, source, file, b"netlist: too long\n")?;
     let reply = reply(alloc, &bytes, limit)?;

@@ -56,20 +56,17 @@ pub fn run<R: Threads + Sync, S: Source, K: Sink>(
     ensures given { S.given source.new ≤ S.given source.old
         + count_named (command_of (map (λ argument. argument.now) arguments.now)) * (MOST_BYTES + 1) }
 {
-    let judging = Judging {
-        rt,
-        alloc,
-        judge: &Stages,
-    };
-    run_by(&judging, arguments, source, sink)
+    run_by(rt, alloc, arguments, source, sink, &Stages)
 }
 
 /// Answers as `run` does, and has each stage judged by a judge of the caller's.
 pub fn run_by<R: Threads + Sync, S: Source, K: Sink, J: Judge + Sync>(
-    judging: &Judging<'_, R, J>,
+    rt: &R,
+    alloc: Global,
     arguments: &[&str],
     source: &mut S,
     sink: &mut K,
+    judge: &J,
 ) -> u8
     requires { AllowsNamed (S.allowed source.old) (map (λ argument. argument.now) arguments.now) }
     ensures answered { IsAnswered (map (λ argument. argument.now) arguments.now)
@@ -84,7 +81,8 @@ pub fn run_by<R: Threads + Sync, S: Source, K: Sink, J: Judge + Sync>(
     ensures given { S.given source.new ≤ S.given source.old
         + count_named (command_of (map (λ argument. argument.now) arguments.now)) * (MOST_BYTES + 1) }
 {
-    match answer(judging, arguments, source) {
+    let judging = Judging { rt, alloc, judge };
+    match answer(&judging, arguments, source) {
         Reply::Made(status, text) => tell(sink, status, &text),
         Reply::Fixed(status, text) => tell(sink, status, text),
     }

@@ -4,7 +4,7 @@ ghost use Rattle.std.specs.Prelude.{◌≢◌};
 use crate::asking::{FIRST_IS_WRONG, THREE_BANKS, held, long_stage};
 use ncl_base::{Memory, NullSink, SteadySource};
 use ncl_shape::Stage;
-use ncl_top::{Judging, run_by};
+use ncl_top::run_by;
 use ncl_verdict::{Judge, Stages, Verdict, judge_stage};
 use std::alloc::Global;
 use std::sync::atomic::{AtomicBool, AtomicUsize, Ordering};
@@ -134,8 +134,7 @@ fn steady_status<R: Threads + Sync, J: Judge + Sync>(
     ensures read { result ≢ 4 }
     ensures write { result ≢ 5 }
 {
-    let judging = Judging { rt, alloc, judge };
-    run_by(&judging, arguments, source, &mut NullSink::new())
+    run_by(rt, alloc, arguments, source, &mut NullSink::new(), judge)
 }
 
 /// A text in the file `f` of a source that can't fail.

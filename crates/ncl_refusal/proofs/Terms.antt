@@ -8,6 +8,7 @@ pub use Rattle.std.proofs.lemmas.Option.{get_or_from_slice_get, slice_get-get_or
 pub use Rattle.std.proofs.lemmas.Slice.Zip.{AllZip-long}
 pub use Rattle.std.specs.List.{list_all, list_any}
 pub use Rattle.std.specs.Prelude.{All, Contains, nat_eq, nat_lt, option_and_then, slice_get, ◌↔◌}
+pub use Rattle.ncl_base.proofs.Growing.{split_at}
 pub use Rattle.ncl_base.proofs.Members.{All-from_members, Contains-from_Member, Contains-from_slice_get, Member, Member-append_cases, Member-append_left, Member-append_right, Member-from_Contains, Member-get_or, Member-map, here, list_any-from_member, member_cases, member_of_map, recursion_from_members, slice_get-from_Contains, slice_get-some, there}
 pub use Rattle.ncl_base.proofs.Tests.{list_all-member, map-same, same_from_both}
 pub use Rattle.ncl_cell_roles.proofs.HeldWords.{held-some}

@@ -71,6 +71,7 @@ pub use Rattle.ncl_reaching.specs.Chain.{CanFollow, by_net, chain, followed, fol
 pub use Rattle.ncl_reaching.specs.Evaluating.{none_low, value_in, word_on}
 pub use Rattle.ncl_reaching.specs.Reaching.{AreSoundWhereReached, Inputs, Shown, brings_fault, first_at, first_reached, first_shown, least_bringing, shown_by}
 pub use Rattle.ncl_reaching.specs.declared.breaking.WrongRun.{WrongRun}
+pub use Rattle.ncl_reaching.specs.declared.fault.Found.{Found}
 pub use Rattle.ncl_reaching.specs.declared.reaching.Reached.{Reached}
 pub use Rattle.ncl_refusal.proofs.Breaking.{IsLost, bit-in_bank, bit-in_word, bit-lost, both-breaks, gate-lost, none-breaks}
 pub use Rattle.ncl_refusal.proofs.Converse.{insensitive-reached}

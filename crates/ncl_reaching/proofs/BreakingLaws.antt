@@ -41,18 +41,24 @@ module _ (p : PipelineData) (shape : Shape p.netlist p) (before : ℕ) (input : 
         (subst (λ u. IsRunFrom p u g.more) there g.is_run) (subst (λ u. IsQuiet p (after p u g.more)) there g.quiet));
   }
 
-  -- what is asked of a run that loses a cell, and what it breaks
-  pub record Takes (fault : StageFault) (cell : CellId) (xs ys : List Item) : Type 0 where
+  -- what is asked of a run from a state that loses a cell, and what it breaks
+  pub record Takes (fault : StageFault) (cell : CellId) (t : State) (xs ys : List Item) : Type 0 where
     pub within : cell.0 < length p.netlist.cells
     pub coming : All (InRange p) xs
     pub going : All (InRange p) ys
-    pub comes : enabled p (tried p start xs) (Fire cell) ≡ true
-    pub goes : enabled p (tried p start (xs ++ ys)) (Fire cell) ≡ false
+    pub comes : enabled p (tried p t xs) (Fire cell) ≡ true
+    pub goes : enabled p (tried p t (xs ++ ys)) (Fire cell) ≡ false
     pub others : All (λ item. item ≢ Fire cell) ys
-    pub breaks : (steps : List Item) → Loses p start cell steps → BreaksIn p before input fault (record { steps = steps; lost = Some cell })
+    pub breaks : (steps : List Item) → Loses p t cell steps → BreaksIn p before input fault (record { steps = steps; lost = Some cell })
+
+  -- so it is of the state and the lists that a run has
+  pub takes-there : {fault : StageFault} {cell : CellId} {xs ys : List Item} → Takes fault cell start xs ys → {t : State} {front back : List Item} → t ≡ start → front ≡ xs → back ≡ ys → Takes fault cell t front back
+  takes-there {fault} {cell} {xs} {ys} taken {t} {front} {back} state first then_on =
+      let ends : ◌≡◌ {A = State × List Item × List Item} (start, xs, ys) (t, front, back) = λ i. (sym state i, sym first i, sym then_on i) in
+      subst (λ (run : State × List Item × List Item). Takes fault cell run.0 run.1 run.2) ends taken
 
   module _ (order : List ℕ) (ord : IsCellOrder p.netlist order) where
-    takes : (fault : StageFault) (b : BringsFault p before input fault) (cell : CellId) (xs ys : List Item) → All (InRange p) xs → All (InRange p) ys → IsLost p input b.stage fault cell xs ys → Takes fault cell xs ys
+    takes : (fault : StageFault) (b : BringsFault p before input fault) (cell : CellId) (xs ys : List Item) → All (InRange p) xs → All (InRange p) ys → IsLost p input b.stage fault cell xs ys → Takes fault cell start xs ys
     takes fault b cell xs ys front back lost = record {
       within = item_in_range p (tried p start xs) (Fire cell) lost.comes;
       coming = front;
@@ -65,14 +71,14 @@ module _ (p : PipelineData) (shape : Shape p.netlist p) (before : ℕ) (input : 
 
     pub bit-takes : (bit : ℕ) (b : BringsFault p before input (Incomplete bit)) (word : List Bool) → word ≡ brings p.stages before input
         → (bank : Bank) → slice_get p.banks before ≡ Some bank → (x : Bit) → slice_get bank.bits bit ≡ Some x
-        → Takes (Incomplete bit) (register_cell x (bit_at word bit)) (lacking p before bit) (acknowledging p order)
+        → Takes (Incomplete bit) (register_cell x (bit_at word bit)) start (lacking p before bit) (acknowledging p order)
     bit-takes bit b word is bank at_bank x at_x =
-        subst (λ cell. Takes (Incomplete bit) cell (lacking p before bit) (acknowledging p order)) (ap (λ w. rail_id x (bit_at w bit)) (sym is) ∙ sym (register-is x (bit_at word bit)))
+        subst (λ cell. Takes (Incomplete bit) cell start (lacking p before bit) (acknowledging p order)) (ap (λ w. rail_id x (bit_at w bit)) (sym is) ∙ sym (register-is x (bit_at word bit)))
         (takes (Incomplete bit) b (rail_id x (bit_at (brings p.stages before input) bit)) (lacking p before bit) (acknowledging p order)
         (lacking-tried p shape before bit (before-within (Incomplete bit) b)) (acknowledging-tried p shape order ord)
         (bit-lost p shape b.null input b.wide before b.stage b.at b.sound order ord bit b.shown bank at_bank x at_x))
 
-    pub gate-takes : (place : ℕ) (b : BringsFault p before input (Orphan place)) (g : StageCell) → slice_get b.stage.cells place ≡ Some g → Takes (Orphan place) g.cell (coming p (before + 1) g.cell) (going p (before + 1) g.cell order)
+    pub gate-takes : (place : ℕ) (b : BringsFault p before input (Orphan place)) (g : StageCell) → slice_get b.stage.cells place ≡ Some g → Takes (Orphan place) g.cell start (coming p (before + 1) g.cell) (going p (before + 1) g.cell order)
     gate-takes place b g at_g =
         let lt = before-within (Orphan place) b in
         takes (Orphan place) b g.cell (coming p (before + 1) g.cell) (going p (before + 1) g.cell order)
@@ -92,20 +98,20 @@ module _ (p : PipelineData) (shape : Shape p.netlist p) (before : ℕ) (input : 
   -- so that of the register cell which is found there
   pub cell-takes : (order : List ℕ) → IsCellOrder p.netlist order → (bit : ℕ) → BringsFault p before input (Incomplete bit) → (word : List Bool) → word ≡ brings p.stages before input → (cell : CellId)
       → ((bank : Bank) (x : Bit) → slice_get p.banks before ≡ Some bank → slice_get bank.bits bit ≡ Some x → cell ≡ register_cell x (bit_at word bit))
-      → Takes (Incomplete bit) cell (lacking p before bit) (acknowledging p order)
+      → Takes (Incomplete bit) cell start (lacking p before bit) (acknowledging p order)
   cell-takes order ord bit b word is cell found =
       let (bank, at) = bank-there (Incomplete bit) b in
       let (x, at_x) = slice_get-some bank.bits bit (bit-there bit b bank at) in
-      subst (λ i. Takes (Incomplete bit) i (lacking p before bit) (acknowledging p order)) (sym (found bank x at at_x)) (bit-takes order ord bit b word is bank at x at_x)
+      subst (λ i. Takes (Incomplete bit) i start (lacking p before bit) (acknowledging p order)) (sym (found bank x at at_x)) (bit-takes order ord bit b word is bank at x at_x)
 
   -- and that of the gate at a place
   pub place-takes : (order : List ℕ) → IsCellOrder p.netlist order → (place : ℕ) → BringsFault p before input (Orphan place) → (own : StageData) → slice_get p.stages before ≡ Some own
       → (cells : List StageCell) → cells ≡ own.cells → (d : StageCell)
-      → Takes (Orphan place) (get_or cells place d).cell (coming p (before + 1) (get_or cells place d).cell) (going p (before + 1) (get_or cells place d).cell order)
+      → Takes (Orphan place) (get_or cells place d).cell start (coming p (before + 1) (get_or cells place d).cell) (going p (before + 1) (get_or cells place d).cell order)
   place-takes order ord place b own at_own cells same d =
       let w = brings p.stages before input in
       let (g, at_g, shown) = standing (λ (c : StageCell). val b.stage w Base c.out.0 && all_data b.stage (val b.stage w (Without place))) (slice_get b.stage.cells place) b.shown in
       let at_b = b.at in
       let one : own ≡ b.stage = cc in
       let gate : get_or cells place d ≡ g = get_or_from_slice_get cells place g d (ap (λ xs. slice_get xs place) (same ∙ ap (λ (s : StageData). s.cells) one) ∙ at_g) in
-      subst (λ (x : StageCell). Takes (Orphan place) x.cell (coming p (before + 1) x.cell) (going p (before + 1) x.cell order)) (sym gate) (gate-takes order ord place b g at_g)
+      subst (λ (x : StageCell). Takes (Orphan place) x.cell start (coming p (before + 1) x.cell) (going p (before + 1) x.cell order)) (sym gate) (gate-takes order ord place b g at_g)

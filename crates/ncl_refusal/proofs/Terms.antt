@@ -6,10 +6,12 @@ pub use Rattle.std.proofs.lemmas.List.{append-nil, length-map}
 pub use Rattle.std.proofs.lemmas.List.Folds.{list_all-map}
 pub use Rattle.std.proofs.lemmas.Option.{get_or_from_slice_get, slice_get-get_or, slice_get_within}
 pub use Rattle.std.proofs.lemmas.Slice.Zip.{AllZip-long}
-pub use Rattle.std.specs.List.{list_all, list_any}
+pub use Rattle.std.specs.List.{flat_map, list_all, list_any}
 pub use Rattle.std.specs.Prelude.{All, Contains, nat_eq, nat_lt, option_and_then, slice_get, ◌↔◌}
 pub use Rattle.ncl_base.proofs.Growing.{split_at}
+pub use Rattle.ncl_base.proofs.Joined.{Member-flat_map, member_of_flat_map}
 pub use Rattle.ncl_base.proofs.Members.{All-from_members, Contains-from_Member, Contains-from_slice_get, Member, Member-append_cases, Member-append_left, Member-append_right, Member-from_Contains, Member-get_or, Member-map, here, list_any-from_member, member_cases, member_of_map, recursion_from_members, slice_get-from_Contains, slice_get-some, there}
+pub use Rattle.ncl_base.proofs.Ranges.{below_of_range}
 pub use Rattle.ncl_base.proofs.Tests.{list_all-member, map-same, same_from_both}
 pub use Rattle.ncl_cell_roles.proofs.HeldWords.{held-some}
 pub use Rattle.ncl_cell_roles.proofs.LaidOut.{laid_out}
@@ -102,8 +104,10 @@ pub use Rattle.ncl_shape.specs.declared.stage.StageCell.{StageCell}
 pub use Rattle.ncl_stage.proofs.OrderLaws.{words_by-length}
 pub use Rattle.ncl_stage.proofs.OrderedTables.{order-is}
 pub use Rattle.ncl_stage.specs.BitOrder.{bit_order, words_by}
+pub use Rattle.ncl_stage.specs.LeastWords.{below}
 pub use Rattle.ncl_stage.specs.Tables.{count}
 pub use Rattle.ncl_verdict.proofs.Accepting.{sound_verdict}
+pub use Rattle.ncl_verdict.proofs.Places.{Member-below}
 pub use Rattle.ncl_verdict.proofs.Sound.{judgement-sound, of_stage-sound}
 pub use Rattle.ncl_verdict.specs.Judgement.{at_variant, faults_of, found, judgement, least_word, stopped_at, variants, verdict_of}
 pub use Rattle.ncl_verdict.specs.Within.{AreWithin}

@@ -42,7 +42,7 @@ pub use Rattle.ncl_compile.specs.Compiled.{Compiled, ComputesModel, IsPlain, ans
 pub use Rattle.ncl_compile.specs.InnerNames.{bank_prefix, inner_pair, inner_pairs, numbered, pairs_driven, request_name, root_name, stage_prefix, three_digits}
 pub use Rattle.ncl_compile.specs.Pieces.{AreStages, IsBankBetween, IsPutTogether, IsStageOfModel, outputs_of, pairs_read}
 pub use Rattle.ncl_compile.specs.Ports.{input_pairs, names_of_rails, output_pairs, port_pair, ports_for, ports_named}
-pub use Rattle.ncl_compile.specs.Size.{CanBeCompiled, IsSlim, compile_size, widths_of}
+pub use Rattle.ncl_network.specs.Size.{CanBeCompiled, IsSlim, compile_size, widths_of}
 pub use Rattle.ncl_decomp.specs.Split.{IsSplit}
 pub use Rattle.ncl_faults.specs.Faults.{IsSound}
 pub use Rattle.ncl_gates.proofs.PinLaws.{name_of-short, pins_of-some}

@@ -17,7 +17,7 @@ use Rattle.ncl_faults.specs.Values.{val}
 use Rattle.ncl_faults.specs.Faults.{IsSound}
 use Rattle.ncl_writer.specs.Names.{is_plain}
 use Rattle.ncl_writer.specs.Text.{text_of}
-use Rattle.ncl_compile.specs.Size.{compile_size, widths_of}
+use Rattle.ncl_network.specs.Size.{compile_size, widths_of}
 use Rattle.ncl_compile.specs.Ports.{ports_for, input_pairs, output_pairs, names_of_rails}
 
 -- the stage has the bits of the model, and gives its answer at each word

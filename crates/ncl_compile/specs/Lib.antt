@@ -1,4 +1,4 @@
-pub mod Size
+pub mod TooLarge
 pub mod Ports
 pub mod Compiled
 pub mod InnerNames

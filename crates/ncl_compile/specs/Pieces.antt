@@ -12,7 +12,7 @@ use Rattle.ncl_rails.specs.declared.StageParts.{StageParts}
 use Rattle.ncl_rails.specs.StageParts.{AreStageParts}
 use Rattle.ncl_bank.specs.declared.BankParts.{BankParts}
 use Rattle.ncl_bank.specs.BankParts.{AreBankParts}
-use Rattle.ncl_compile.specs.Size.{widths_of}
+use Rattle.ncl_network.specs.Size.{widths_of}
 use Rattle.ncl_compile.specs.Compiled.{answer_width}
 use Rattle.ncl_compile.specs.Ports.{ports_for, input_pairs}
 use Rattle.ncl_compile.specs.InnerNames.{bank_prefix, stage_prefix, inner_pairs, pairs_driven, root_name, request_name}

@@ -4,7 +4,7 @@ ghost use Rattle.ncl_base.specs.declared.word.TheConstants.{MOST_BITS};
 ghost use Rattle.ncl_blif.specs.Model.{AreModels};
 ghost use Rattle.ncl_blif.specs.Meaning.{width_of};
 ghost use Rattle.ncl_tree.specs.NamePairs.{pair_names, IsFreeOf};
-ghost use Rattle.ncl_compile.specs.Size.{widths_of, CanBeCompiled, most_models};
+ghost use Rattle.ncl_network.specs.Size.{widths_of, CanBeCompiled, most_models};
 ghost use Rattle.ncl_compile.specs.InnerNames.{bank_prefix};
 ghost use Rattle.ncl_compile.specs.Pieces.{AreStages, AreBanks, IsBankBetween, pairs_read};
 

@@ -1,7 +1,8 @@
 //! Models, compiled.
 ghost use Rattle.std.specs.Prelude.{IfOk, IfErr, OnOk};
 ghost use Rattle.ncl_blif.specs.Model.{AreModels};
-ghost use Rattle.ncl_compile.specs.Size.{IsCompileFault, CanBeCompiled};
+ghost use Rattle.ncl_network.specs.Size.{CanBeCompiled};
+ghost use Rattle.ncl_compile.specs.TooLarge.{IsCompileFault};
 ghost use Rattle.ncl_compile.specs.Compiled.{Compiled};
 
 use crate::banks::banks_of;

@@ -4,7 +4,7 @@ ghost use Rattle.std.specs.List.{flat_map};
 ghost use Rattle.ncl_base.specs.declared.word.TheConstants.{MOST_BITS};
 ghost use Rattle.ncl_blif.specs.Model.{AreModels};
 ghost use Rattle.ncl_tree.specs.NamePairs.{pair_names};
-ghost use Rattle.ncl_compile.specs.Size.{CanBeCompiled};
+ghost use Rattle.ncl_network.specs.Size.{CanBeCompiled};
 ghost use Rattle.ncl_compile.specs.Ports.{ports_named, ports_for};
 ghost use Rattle.ncl_compile.specs.Pieces.{AreStages, AreBanks, IsPutTogether};
 

@@ -2,7 +2,8 @@
 ghost use Rattle.std.specs.Prelude.{◌≡◌, ◌≤◌, ◌<◌, IsTrue, ◌↔◌, IfErr, OnOk};
 ghost use Rattle.ncl_blif.specs.Model.{AreModels, most_size, weight_of_rows};
 ghost use Rattle.ncl_network.specs.Network.{weight_of_model};
-ghost use Rattle.ncl_compile.specs.Size.{compile_size, IsSlim, IsCompileFault, CanBeCompiled};
+ghost use Rattle.ncl_network.specs.Size.{compile_size, IsSlim, CanBeCompiled};
+ghost use Rattle.ncl_compile.specs.TooLarge.{IsCompileFault};
 
 use crate::fault::CompileFault;
 use ncl_base::MOST_BITS;

@@ -1,7 +1,7 @@
 //! The stages that models become.
 ghost use Rattle.std.specs.Prelude.{◌<◌, ◌≤◌, length, IfOk, All};
 ghost use Rattle.ncl_blif.specs.Model.{IsModel};
-ghost use Rattle.ncl_compile.specs.Size.{IsSlim, most_models};
+ghost use Rattle.ncl_network.specs.Size.{IsSlim, most_models};
 ghost use Rattle.ncl_compile.specs.InnerNames.{inner_pairs, stage_prefix};
 ghost use Rattle.ncl_compile.specs.Pieces.{IsStageOfModel, AreStages};
 

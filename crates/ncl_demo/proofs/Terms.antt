@@ -19,7 +19,7 @@ pub use Rattle.ncl_blif.specs.Model.{AreJoined, AreModels, Depends, IsModel, rea
 pub use Rattle.ncl_blif.specs.declared.model.Cover.{Cover}
 pub use Rattle.ncl_blif.specs.declared.model.Lit.{Lit}
 pub use Rattle.ncl_blif.specs.declared.model.Model.{Model}
-pub use Rattle.ncl_compile.specs.Size.{CanBeCompiled, widths_of}
+pub use Rattle.ncl_network.specs.Size.{CanBeCompiled, widths_of}
 pub use Rattle.ncl_demo.specs.Adder.{IsAdder, IsStage}
 pub use Rattle.ncl_demo.specs.Adding.{bit_value, bits_in, carry_of, ones_of, stage_answer, sum_of}
 pub use Rattle.ncl_demo.specs.Covers.{covers_of}

@@ -3,7 +3,7 @@ ghost use Rattle.std.specs.Prelude.{◌≡◌, ◌+◌, ◌-◌, ◌<◌, ◌≤
 ghost use Rattle.std.specs.List.{range_with_len};
 ghost use Rattle.ncl_blif.specs.Model.{IsModel, AreModels, size_of_model};
 ghost use Rattle.ncl_demo.specs.Adder.{IsStage, IsAdder};
-ghost use Rattle.ncl_compile.specs.Size.{CanBeCompiled};
+ghost use Rattle.ncl_network.specs.Size.{CanBeCompiled};
 
 use crate::covers::{FULL_CARRY, FULL_SUM, HALF_CARRY, HALF_SUM, covers};
 use itoa::Buffer;

@@ -4,3 +4,5 @@ pub mod ValueLaws
 pub mod OnePass
 pub mod StageTest
 pub mod WiringLaws
+pub mod NamedRails
+pub mod Reordered

@@ -1,9 +1,16 @@
 -- The places of nets: how they are numbered, and what stands at them.
-use Rattle.ncl_faults.proofs.Terms.{All, All-contains, AllPairs, Contains, Contains-from_Member, IsStage, List, Member, Member-append_left, Member-from_Contains, NetId, Rails, StageCell, StageData, [], ap, append_assoc, arith, cond, drop, drop_more, eqb-true, false_from_ne_true, get_or, here, insert_key, length, map, map-append, member_from_list_any, nat_eq, nets_of, out_of, rail_nets, refl, subst, suc, sym, take, take-append-drop, take_more, there, zero, ℕ, ◌++◌, ◌+◌, ◌<◌, ◌∙◌, ◌∷◌, ◌≡◌, ◌≢◌}
+use Rattle.ncl_faults.proofs.Terms.{All, All-contains, AllPairs, Contains, Contains-from_Member, IsStage, List, Member, Member-append_left, Member-from_Contains, NetId, Rails, StageCell, StageData, [], ap, append_assoc, arith, cond, drop, drop_more, eqb-true, false_from_ne_true, get_or, here, insert_key, length, map, map-append, member_from_list_any, nat_eq, nets_of, out_of, rail_nets, refl, subst, suc, sym, take, take-append-drop, take_more, there, zero, ℕ, ◌++◌, ◌+◌, ◌<◌, ◌∙◌, ◌∷◌, ◌≡◌, ◌≢◌, get_or_append_left, length-append}
 use Rattle.ncl_faults.proofs.Apart.{parts-differ}
 
 abbrev pub AllDiffer : List ℕ → Type 0
 AllDiffer nets = AllPairs (λ x y. x ≢ y) nets
+
+pub left-differ : (xs ys : List ℕ) → AllDiffer (xs ++ ys) → AllDiffer xs
+left-differ xs ys differ = λ i j d before within.
+    let e = get_or_append_left xs ys d i (omega arith) in
+    let f = get_or_append_left xs ys d j within in
+    let n = length-append xs ys in
+    λ same. differ i j d before (omega arith) (e ∙ same ∙ sym f)
 
 -- a net that is in no front of a list goes last
 pub insert_next : (front : List ℕ) (net : ℕ) (rest : List ℕ) → AllDiffer (front ++ net ∷ rest) → insert_key nat_eq front net ≡ front ++ net ∷ []

@@ -157,6 +157,17 @@ set_of-Th13 = of_three (λ ins. set_of Th13 ins ≡ some_high ins) (λ a b c. rw
 pub set_of-Th14 : IsDisjunction Th14
 set_of-Th14 = of_four (λ ins. set_of Th14 ins ≡ some_high ins) (λ a b c d. rw (and_true a, and_true b, and_true c, and_true d) refl)
 
+-- the gates of two pins
+pub or_gate : (a b : Bool) → set_of Th12 (a ∷ b ∷ []) ≡ (a || b)
+or_gate true b = refl
+or_gate false true = refl
+or_gate false false = refl
+
+pub and_gate : (a b : Bool) → set_of Th22 (a ∷ b ∷ []) ≡ (a && b)
+and_gate true true = refl
+and_gate true false = refl
+and_gate false b = refl
+
 -- a cell that has its next value keeps it while its pins do
 again : (set some old : Bool) → (if set then true else if some then (if set then true else if some then old else false) else false) ≡ (if set then true else if some then old else false)
 again true some old = refl

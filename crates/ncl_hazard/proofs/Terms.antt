@@ -30,6 +30,7 @@ pub use Rattle.ncl_diagram.specs.Diagram.{diagram_space}
 pub use Rattle.ncl_faults.proofs.Apart.{parts-differ, right-differ}
 pub use Rattle.ncl_faults.proofs.OnePass.{among-from_member}
 pub use Rattle.ncl_faults.proofs.ValueLaws.{rail-no_output, same_output, val-output, val-rail}
+pub use Rattle.ncl_faults.proofs.WiringLaws.{left-differ}
 pub use Rattle.ncl_faults.specs.Faults.{BothRails, Incomplete, IsSound, IsWordOf, NoRail, Orphan, StageFault, all_data, has_data, holds_at, is_illegal, shows}
 pub use Rattle.ncl_faults.specs.Values.{holds, kept_low, output_net, val}
 pub use Rattle.ncl_faults.specs.declared.variant.Variant.{Variant}
@@ -94,7 +95,6 @@ pub use Rattle.ncl_space.proofs.TableLaws.{find-same, table_of-same}
 pub use Rattle.ncl_space.specs.Beads.{bead_count, distinct_beads}
 pub use Rattle.ncl_space.specs.Space.{IsNew, Keeps, SpaceData, fits, is_within, with_tables}
 pub use Rattle.ncl_space.specs.Table.{table_of, words}
-pub use Rattle.ncl_stage.proofs.NetLaws.{left-differ}
 pub use Rattle.ncl_stage.proofs.OrderLaws.{words-length, words_by-ascending}
 pub use Rattle.ncl_stage.proofs.OutputLaws.{fronts-map, net-tables}
 pub use Rattle.ncl_stage.specs.BitOrder.{bit_order, words_by}

@@ -33,6 +33,7 @@ pub use Rattle.ncl_cell_rules.specs.declared.source.Source.TheVariants.{Ack as F
 pub use Rattle.ncl_faults.proofs.Apart.{named-within, parts-differ, right-differ, same_from_value}
 pub use Rattle.ncl_faults.proofs.OnePass.{among-from_member}
 pub use Rattle.ncl_faults.proofs.ValueLaws.{holds-grows, rail-no_output, same_output, val-keeps, val-output, val-rail, val-settled, val-support, val-within}
+pub use Rattle.ncl_faults.proofs.WiringLaws.{left-differ}
 pub use Rattle.ncl_faults.specs.Faults.{BothRails, Incomplete, IsSound, IsWordOf, NoRail, Orphan, all_data, has_data, holds_at, is_illegal, shows}
 pub use Rattle.ncl_faults.specs.Values.{both_rails, holds, kept_low, output_net, val}
 pub use Rattle.ncl_faults.specs.declared.variant.Variant.{Variant}
@@ -78,4 +79,3 @@ pub use Rattle.ncl_shape.specs.declared.item.Item.{Item}
 pub use Rattle.ncl_shape.specs.declared.item.Item.TheVariants.{Cell as Fire, Lower, Raise, Ready, Take}
 pub use Rattle.ncl_shape.specs.declared.rails.Rails.{Rails}
 pub use Rattle.ncl_shape.specs.declared.stage.StageCell.{StageCell}
-pub use Rattle.ncl_stage.proofs.NetLaws.{left-differ}

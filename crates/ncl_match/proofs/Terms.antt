@@ -38,8 +38,11 @@ pub use Rattle.ncl_cell_roles.specs.Layout.{IsLayoutOf, Layout, Part, in_rail, n
 pub use Rattle.ncl_cell_rules.specs.Origin.{A, CellAt, IsCell, IsGate, IsRegister, OnPin, ReadsNet}
 pub use Rattle.ncl_diagram.specs.Diagram.{diagram_space}
 pub use Rattle.ncl_faults.proofs.Apart.{named-within, parts-differ, right-differ}
+pub use Rattle.ncl_faults.proofs.NamedRails.{named-at}
 pub use Rattle.ncl_faults.proofs.ValueLaws.{rail-no_output, same_output}
+pub use Rattle.ncl_faults.proofs.WiringLaws.{left-differ}
 pub use Rattle.ncl_gates.proofs.DualLaws.{dual-arity, dual-set, dual_pins-length, dual_pins-map}
+pub use Rattle.ncl_gates.proofs.GateLaws.{and_gate, or_gate}
 pub use Rattle.ncl_gates.proofs.RegisterLaws.{at_register}
 pub use Rattle.ncl_gates.specs.Cell.{is_register}
 pub use Rattle.ncl_gates.specs.Dual.{crossed, dual_of, dual_pins, is_crossed}
@@ -64,15 +67,13 @@ pub use Rattle.ncl_shape.specs.declared.stage.StageCell.{StageCell}
 pub use Rattle.ncl_space.proofs.BeadLaws.{distinct_beads-append, one_set, table_order}
 pub use Rattle.ncl_space.proofs.MakingLaws.{handed_on, held-along, makes-live, too_much-after}
 pub use Rattle.ncl_space.proofs.SpaceLaws.{keeps_all, keeps_along, len_grows, too_much_by_front, with_none}
-pub use Rattle.ncl_space.proofs.TableLaws.{at_table, find-words, least-table_of, table_of-same, word_number-less}
+pub use Rattle.ncl_space.proofs.TableLaws.{at_table, find-words, least-table_of, table_of-at, table_of-same, word_number-less}
 pub use Rattle.ncl_space.specs.Beads.{Beads, bead_count, distinct_beads}
 pub use Rattle.ncl_space.specs.Functions.{at, constant_table, gate_table, is_value, least, rail_table}
 pub use Rattle.ncl_space.specs.Space.{IsLive, IsNew, IsSpace, Keeps, Makes, SpaceData, Within, fits, is_within, with_tables}
 pub use Rattle.ncl_space.specs.Table.{table_of, word_number, words}
 pub use Rattle.ncl_space.specs.declared.space.Ref.{Ref}
 pub use Rattle.ncl_space.specs.declared.space.SpaceFault.{SpaceFault}
-pub use Rattle.ncl_stage.proofs.NetLaws.{left-differ, named-at}
-pub use Rattle.ncl_stage.proofs.OutputLaws.{and_gate, or_gate, table_of-at}
 pub use mathlib.Core.Bool.{beq}
 pub use Rattle.ncl_match.specs.Answer.{DiffersAt, HaveWidths, IsAnswer, IsBitAnswer, IsOver, IsRunAnswer, bit_of, outputs_of}
 pub use Rattle.ncl_match.specs.Circuit.{Circuit, circuit_of, closed, computed}

@@ -27,6 +27,7 @@ pub use Rattle.ncl_cell_rules.specs.Rules.{IsAckOfOne, IsFirstOfBank, IsGateOfOn
 pub use Rattle.ncl_cell_rules.specs.Tables.{IsTable}
 pub use Rattle.ncl_faults.proofs.Apart.{named-within, right-differ}
 pub use Rattle.ncl_faults.proofs.OnePass.{among-from_member}
+pub use Rattle.ncl_faults.proofs.Reordered.{IsSameVariant, base, bit, cell, same_values}
 pub use Rattle.ncl_faults.proofs.ValueLaws.{rail-no_output, rises-monotone, same_output, start-within, val-keeps, val-output, val-settled}
 pub use Rattle.ncl_faults.specs.Faults.{BothRails, Incomplete, IsSound, IsWordOf, NoRail, Orphan, all_data, has_data, holds_at, is_illegal}
 pub use Rattle.ncl_faults.specs.Values.{both_rails, holds, kept_low, output_net, rises, start, val}
@@ -102,7 +103,6 @@ pub use Rattle.ncl_shape.specs.declared.fault.ShapeFault.TheVariants.{Memory}
 pub use Rattle.ncl_shape.specs.declared.rails.Rails.{Rails}
 pub use Rattle.ncl_shape.specs.declared.stage.StageCell.{StageCell}
 pub use Rattle.ncl_space.specs.Table.{words}
-pub use Rattle.ncl_stage.proofs.Reordered.{IsSameVariant, base, bit, cell, same_values}
 pub use Rattle.ncl_writer.specs.Names.{spelled_name}
 pub use Rattle.ncl_writer.specs.Text.{cell_line, header_line, opened, pin_text, pin_texts, port_line, text_of, wire_line}
 pub use Rattle.std.proofs.Common.{All, AllPairs, Bool, Contains, IsPermutation, List, MatchOption, None, Option, Some, [], ap, append_assoc, arith, bytes_eq, codes, cond, count_by, drop, eq-eqb, false, filter, get_or, get_or-set_other, get_or-set_same, if◌then◌else◌, inl, inr, is_some, length, length-append, length-set, map, nat_eq, not, refl, set, slice_get, subst, suc, sum_by, sym, take, true, zero, ℕ, ◌&&◌, ◌++◌, ◌+◌, ◌-◌, ◌<◌, ◌==◌, ◌^◌, ◌||◌, ◌∙◌, ◌∷◌, ◌≡◌, ◌≢◌, ◌≤◌, ◌⊎◌}

@@ -1,4 +1,5 @@
 pub mod Network
+pub mod Size
 pub mod Fold
 pub mod Walk
 pub mod Prune

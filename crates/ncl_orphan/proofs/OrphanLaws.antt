@@ -16,7 +16,8 @@ use Rattle.ncl_stage.specs.LeastWords.{least_word_by}
 use Rattle.ncl_stage.specs.StageTables.{net_table_by, shared_tables_by}
 use Rattle.ncl_stage.specs.Tables.{all_data_function, function_tables_by, orphan_function, tables_by}
 use Rattle.ncl_faults.specs.Values.{val}
-use Rattle.ncl_stage.proofs.OutputLaws.{values_at, and_gate}
+use Rattle.ncl_gates.proofs.GateLaws.{and_gate}
+use Rattle.ncl_stage.proofs.OutputLaws.{values_at}
 use Rattle.ncl_stage.proofs.LeastLaws.{least-shown, tables_of-parts}
 
 -- the cell is high under Base, and all outputs are DATA without it

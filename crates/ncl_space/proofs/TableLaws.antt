@@ -1,6 +1,6 @@
 -- Tables of functions of a word: their length and halves, the value at a word, the least word, and that a
 -- constant has no bead.
-use Rattle.ncl_space.proofs.Terms.{Bool, List, None, Option, Some, [], ap, arith, at, beads_of, common_steps, constant_table, distinct_beads, drop, drop-append_seam, false, find, find-append, high_half, if◌then◌else◌, is_same, least, length, length-append, low_half, map, map-append, not, option_map, option_or, refl, slice_index_or, suc, sym, table_of, take, take-append_seam, true, word_number, words, zero, ℕ, ◌++◌, ◌+◌, ◌<◌, ◌^◌, ◌∙◌, ◌∷◌, ◌≡◌}
+use Rattle.ncl_space.proofs.Terms.{Bool, List, None, Option, Some, [], ap, arith, at, beads_of, common_steps, constant_table, distinct_beads, drop, drop-append_seam, false, find, find-append, high_half, if◌then◌else◌, is_same, least, length, length-append, low_half, map, map-append, not, option_map, option_or, refl, slice_index_or, suc, sym, table_of, take, take-append_seam, true, word_number, words, zero, ℕ, ◌++◌, ◌+◌, ◌<◌, ◌^◌, ◌∙◌, ◌∷◌, ◌≡◌, take-append-drop, length-take-le}
 use Rattle.std.specs.FinSet as set
 
 pub pow_suc : (n : ℕ) → 2 ^ suc n ≡ 2 ^ n + 2 ^ n
@@ -55,6 +55,24 @@ at-low l h w e = get_front l h (word_number w) (omega (arith, word_number-less w
 
 pub at-high : (l h w : List Bool) → length l ≡ 2 ^ length w → at (l ++ h) (true ∷ w) ≡ at h w
 at-high l h w e = get_back l h (2 ^ length w + word_number w) (word_number w) (omega arith)
+
+-- a table is that of its values
+pub table_of-at : (n : ℕ) (t : List Bool) → length t ≡ 2 ^ n → table_of (words n) (at t) ≡ t
+table_of-at zero [] e = absurd (omega arith)
+table_of-at zero (b ∷ []) e = refl
+table_of-at zero (b ∷ c ∷ t) e = absurd (omega arith)
+table_of-at (suc n) t e =
+    let l : List Bool = take (2 ^ n) t in
+    let h : List Bool = drop (2 ^ n) t in
+    let cut : l ++ h ≡ t = take-append-drop (2 ^ n) t in
+    let p = pow_suc n in
+    let low : length l ≡ 2 ^ n = length-take-le (2 ^ n) t (omega arith) in
+    let high : length h ≡ 2 ^ n = omega (arith, length-append l h, ap length cut) in
+    ap (λ u. table_of (words (suc n)) (at u)) (sym cut)
+    ∙ table_of-halves n (at (l ++ h))
+    ∙ (λ i. (table_of-same n (λ w. at (l ++ h) (false ∷ w)) (at l) (λ w same. at-low l h w (low ∙ ap (λ k. 2 ^ k) (sym same))) ∙ table_of-at n l low) i
+    ++ (table_of-same n (λ w. at (l ++ h) (true ∷ w)) (at h) (λ w same. at-high l h w (low ∙ ap (λ k. 2 ^ k) (sym same))) ∙ table_of-at n h high) i)
+    ∙ cut
 
 -- the table of a function has its value at each word
 pub at_table : (n : ℕ) (f : List Bool → Bool) (w : List Bool) → length w ≡ n → at (table_of (words n) f) w ≡ f w

@@ -1,8 +1,8 @@
 -- The laws of the bit order: what a walk from a place meets, and that each bit stands in the order once.
-use Rattle.ncl_stage.proofs.Terms.{All, All-contains, All-from_members, All-head, All-tail, AllDiffer, AreMet, Contains, Contains-from_Member, IsStage, List, Member, Member-get_or, Member-map, NetId, None, Rails, ReadEarlier, Some, StageCell, StageData, Th12, [], ap, append-nil, append_assoc, arith, bit_order, bits_from, cases_lt, cond, driver_of, drop, eq-eqb, flat_map, gate, get_or, get_or-map, get_or_append_left, here, inl, inr, length, length-append, length-map, length-take-le, map, map-map, member_cases, member_of_map, met, nat_eq, ne_eqb, net_at, nets_of, or_right, out_of, pairs-head, pairs-tail, pin_places, rail-no_output, rail_nets, rail_places, rails-length, range_with_len, read_by, refl, right-differ, subst, suc, sym, take, there, with_bits, zero, ℕ, ◌*◌, ◌++◌, ◌+◌, ◌-◌, ◌/◌, ◌<◌, ◌||◌, ◌∙◌, ◌∷◌, ◌≡◌, ◌≢◌}
+use Rattle.ncl_stage.proofs.Terms.{All, All-contains, All-from_members, All-head, All-tail, AllDiffer, AreMet, Contains, Contains-from_Member, IsStage, List, Member, Member-get_or, Member-map, NetId, None, Rails, ReadEarlier, Some, StageCell, StageData, Th12, [], ap, append-nil, append_assoc, arith, bit_order, bits_from, cases_lt, cond, driver_of, drop, eq-eqb, flat_map, gate, get_or, get_or-map, get_or_append_left, here, inl, inr, length, length-append, length-map, length-take-le, map, map-map, member_cases, member_of_map, met, nat_eq, ne_eqb, net_at, nets_of, or_right, out_of, pairs-head, pairs-tail, pin_places, rail-no_output, rail_nets, rail_places, rails-length, range_with_len, read_by, refl, right-differ, subst, suc, sym, take, there, with_bits, zero, ℕ, ◌*◌, ◌++◌, ◌+◌, ◌-◌, ◌/◌, ◌<◌, ◌||◌, ◌∙◌, ◌∷◌, ◌≡◌, ◌≢◌, left-differ}
 use Rattle.ncl_stage.specs.BitOrder.{place_in}
 use Rattle.ncl_stage.proofs.ChangedLaws.{nets-length, net_at-rail, net_at-cell, nets-before}
-use Rattle.ncl_stage.proofs.NetLaws.{left-differ, nets-cut, out_at, out_at-is, place_in-front, reads-before}
+use Rattle.ncl_stage.proofs.NetLaws.{nets-cut, out_at, out_at-is, place_in-front, reads-before}
 use Rattle.ncl_stage.proofs.PlaceLaws.{place_in-at}
 
 -- ---- lists of lists

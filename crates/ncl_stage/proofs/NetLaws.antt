@@ -1,52 +1,10 @@
 -- The tables of the nets of a stage, as a space makes them: of rails, of outputs of cells, and of what is
 -- kept low.
-use Rattle.ncl_stage.proofs.Terms.{All, All-cons, All-head, All-nil, All-tail, AllDiffer, Bool, Contains, HaveTables, IsLive, IsOrderOf, IsStage, IsWiring, List, Member, Member-append_cases, NetId, Rails, Ref, SpaceData, StageCell, StageData, Variant, WiringData, [], among, ap, arith, at, cases_eq, cases_lt, constant_table, drop, drop_more, eq-eqb, false, false_from_ne_true, gate_table, get_or, get_or-map, get_or_append_left, have-at, have-length, here, holds, inl, inr, is_value, kept_low, length, length-append, length-map, map, map-append, member_of_map, named-within, named_rails, nat_eq, ne_eqb, net_table_by, nets_of, not, one-member, out_of, pairs-head, pairs-tail, pin_places, pin_values, place_in, placed, rail_at, rail_nets, rail_of, rail_table, ref_at, refl, set_of, subst, suc, sym, take, take-append-drop, there, true, val, val-output, val-rail, zero, zero-member, ℕ, ◌&&◌, ◌++◌, ◌+◌, ◌<◌, ◌||◌, ◌∙◌, ◌∷◌, ◌≡◌, ◌≢◌}
+use Rattle.ncl_stage.proofs.Terms.{All, All-cons, All-head, All-nil, All-tail, AllDiffer, Bool, Contains, HaveTables, IsLive, IsOrderOf, IsStage, IsWiring, List, Member, Member-append_cases, NetId, Rails, Ref, SpaceData, StageCell, StageData, Variant, WiringData, [], among, ap, arith, at, cases_eq, cases_lt, constant_table, drop, drop_more, false, gate_table, get_or, get_or-map, get_or_append_left, have-at, have-length, holds, inl, inr, is_value, kept_low, length, length-append, length-map, map, map-append, member_of_map, named_rails, net_table_by, nets_of, not, out_of, pin_places, pin_values, place_in, placed, rail_at, rail_nets, rail_table, ref_at, refl, set_of, subst, sym, take, take-append-drop, true, val, val-output, val-rail, zero, ℕ, ◌&&◌, ◌++◌, ◌+◌, ◌<◌, ◌∙◌, ◌∷◌, ◌≡◌, left-differ, named-at, rail-member}
 use Rattle.std.proofs.lemmas.List.{append_assoc}
 use Rattle.ncl_stage.proofs.OrderLaws.{placed-at}
 use Rattle.ncl_stage.proofs.OrderedTables.{ordered-at, ordered-same, placed-length}
 use Rattle.ncl_stage.proofs.PlaceLaws.{place_in-at}
-
-pub rail-member : (rails : List Rails) (i : ℕ) (d : Rails) (value : Bool) → i < length rails → Member (rail_of (get_or rails i d) value) (rail_nets rails)
-rail-member rails i d true lt = one-member rails i d lt
-rail-member rails i d false lt = zero-member rails i d lt
-
--- the rails of a first bit are no rails of the others
-first-apart : (r : Rails) (nets : List ℕ) → AllDiffer (r.zero.0 ∷ r.one.0 ∷ nets) → (b : Bool) (net : ℕ) → Member net nets → net ≢ rail_of r b
-first-apart r nets differ true net m = λ same. pairs-head (λ x y. x ≢ y) r.one.0 nets (pairs-tail (λ x y. x ≢ y) r.zero.0 (r.one.0 ∷ nets) differ) net m (sym same)
-first-apart r nets differ false net m = λ same. pairs-head (λ x y. x ≢ y) r.zero.0 (r.one.0 ∷ nets) differ net (there m) (sym same)
-
-first-value : (r : Rails) (nets : List ℕ) → AllDiffer (r.zero.0 ∷ r.one.0 ∷ nets) → (value b : Bool) → nat_eq (rail_of r value) (rail_of r b) ≡ is_value value b
-first-value r nets differ true true = eq-eqb r.one.0 r.one.0 refl
-first-value r nets differ false false = eq-eqb r.zero.0 r.zero.0 refl
-first-value r nets differ true false = ne_eqb r.one.0 r.zero.0 (λ same. pairs-head (λ x y. x ≢ y) r.zero.0 (r.one.0 ∷ nets) differ r.one.0 here (sym same))
-first-value r nets differ false true = ne_eqb r.zero.0 r.one.0 (λ same. pairs-head (λ x y. x ≢ y) r.zero.0 (r.one.0 ∷ nets) differ r.one.0 here same)
-
-or_low : (a b : Bool) → b ≡ false → (a || b) ≡ a
-or_low a true e = absurd cc
-or_low true false e = refl
-or_low false false e = refl
-
-low_or : (a b : Bool) → a ≡ false → (a || b) ≡ b
-low_or false b e = refl
-low_or true b e = absurd cc
-
--- a rail is named where its bit has its value
-pub named-at : (rails : List Rails) → AllDiffer (rail_nets rails) → (word : List Bool) → length word ≡ length rails → (i : ℕ) (d : Rails) → i < length rails → (value : Bool) → among (named_rails rails word) (rail_of (get_or rails i d) value) ≡ is_value value (get_or word i false)
-named-at [] differ word same i d lt value = absurd (omega arith)
-named-at (r ∷ rs) differ [] same i d lt value = absurd (omega arith)
-named-at (r ∷ rs) differ (b ∷ word) same zero d lt value =
-    or_low (nat_eq (rail_of r value) (rail_of r b)) _ (false_from_ne_true _ (λ high. first-apart r (rail_nets rs) differ value (rail_of r value) (named-within rs word (rail_of r value) high) refl))
-    ∙ first-value r (rail_nets rs) differ value b
-named-at (r ∷ rs) differ (b ∷ word) same (suc i) d lt value =
-    low_or (nat_eq (rail_of (get_or rs i d) value) (rail_of r b)) _ (ne_eqb _ _ (first-apart r (rail_nets rs) differ b _ (rail-member rs i d value (omega arith))))
-    ∙ named-at rs (pairs-tail (λ x y. x ≢ y) r.one.0 (rail_nets rs) (pairs-tail (λ x y. x ≢ y) r.zero.0 (r.one.0 ∷ rail_nets rs) differ)) word (omega arith) i d (omega arith) value
-
-pub left-differ : (xs ys : List ℕ) → AllDiffer (xs ++ ys) → AllDiffer xs
-left-differ xs ys differ = λ i j d before within.
-    let e = get_or_append_left xs ys d i (omega arith) in
-    let f = get_or_append_left xs ys d j within in
-    let n = length-append xs ys in
-    λ same. differ i j d before (omega arith) (e ∙ same ∙ sym f)
 
 and_high : (a b : Bool) → b ≡ false → (a && not b) ≡ a
 and_high a true e = absurd cc

@@ -1,6 +1,5 @@
 -- A stage whose outputs have one high rail each, and whose nets are all observed, is sound.
-use Rattle.ncl_stage.proofs.Terms.{All-contains, AllPairs, AreObserved, Base, Bit, Bool, BothRails, Cell, Contains, Contains-from_Member, Contains-from_slice_get, HasValidRails, Incomplete, IsBelow, IsSound, IsStage, IsWordOf, List, Member, Member-append_cases, Member-append_right, Member-from_Contains, Member-map, NetId, Nets, NoRail, None, Option, Orphan, Rails, Some, StageCell, StageData, Variant, [], all_data, among, and_parts, ap, append_assoc, both_rails, both_ways, cases_eq, cond, eq-eqb, falls_with, false, false_from_ne_true, get_or, get_or_from_slice_get, has_data, here, holds, holds-grows, holds_at, inl, inr, is_illegal, is_value, kept_low, length, list_all, map, map-append, member_cases, named_rails, nat_eq, ne_eqb, nets_of, not, or_left, or_right, out_of, output_net, parts-differ, pin_values, rail_nets, rail_of, refl, set_of, slice_get, slice_get-from_Contains, slice_get_within, split_at, subst, sym, there, true, val, val-below_base, val-output, val-rail, with_net, ℕ, ◌&&◌, ◌++◌, ◌<◌, ◌||◌, ◌∙◌, ◌∷◌, ◌≡◌, ◌≢◌, ◌⊎◌}
-use Rattle.ncl_stage.proofs.NetLaws.{left-differ, named-at, rail-member}
+use Rattle.ncl_stage.proofs.Terms.{All-contains, AllPairs, AreObserved, Base, Bit, Bool, BothRails, Cell, Contains, Contains-from_Member, Contains-from_slice_get, HasValidRails, Incomplete, IsBelow, IsSound, IsStage, IsWordOf, List, Member, Member-append_cases, Member-append_right, Member-from_Contains, Member-map, NetId, Nets, NoRail, None, Option, Orphan, Rails, Some, StageCell, StageData, Variant, [], all_data, among, and_parts, ap, append_assoc, both_rails, both_ways, cases_eq, cond, eq-eqb, falls_with, false, false_from_ne_true, get_or, get_or_from_slice_get, has_data, here, holds, holds-grows, holds_at, inl, inr, is_illegal, is_value, kept_low, length, list_all, map, map-append, member_cases, named_rails, nat_eq, ne_eqb, nets_of, not, or_left, or_right, out_of, output_net, parts-differ, pin_values, rail_nets, rail_of, refl, set_of, slice_get, slice_get-from_Contains, slice_get_within, split_at, subst, sym, there, true, val, val-below_base, val-output, val-rail, with_net, ℕ, ◌&&◌, ◌++◌, ◌<◌, ◌||◌, ◌∙◌, ◌∷◌, ◌≡◌, ◌≢◌, ◌⊎◌, left-differ, named-at, rail-member}
 
 not_true : (b : Bool) → not b ≡ true → b ≡ false
 not_true true e = absurd cc

@@ -1,26 +1,8 @@
 -- The tables of the DATA of the outputs, of their conjunctions, and of what a variant asks, as a space makes
 -- them from the tables of the nets.
-use Rattle.ncl_stage.proofs.Terms.{All, All-head, All-tail, Bool, Contains, HaveTables, IsLive, IsOrderOf, IsStage, IsWiring, Kind, List, None, Option, Rails, Ref, Some, SpaceData, StageData, Th12, Th22, ValuesAt, Variant, WiringData, [], all_data_function, all_table, ap, arith, at, at-high, at-low, at_rail, at_table, conjunction, data_fronts, data_functions, drop, false, front_tables, fronts, function_tables_by, gate_table, get_or, get_or-map, get_or-take, get_or_push, has_data, have-at, have-length, illegal_functions, is_illegal, length, length-append, length-map, length-take-le, list_all, list_all-append, map, map-append, map-map, net_functions, net_table_by, net_tables_by, nets_of, option_map, pair_table, place_in, placed, pow_suc, rail_nets, rail_places, refl, set_of, shared_tables_by, subst, suc, sym, table_of, table_of-halves, table_of-same, take, take-append-drop, take_all, take_more, true, val, words, words_by, zero, ℕ, ◌&&◌, ◌++◌, ◌+◌, ◌-◌, ◌<◌, ◌^◌, ◌||◌, ◌∙◌, ◌∷◌, ◌≡◌, ◌≤◌}
+use Rattle.ncl_stage.proofs.Terms.{All, All-head, All-tail, Bool, Contains, HaveTables, IsLive, IsOrderOf, IsStage, IsWiring, Kind, List, None, Option, Rails, Ref, Some, SpaceData, StageData, Th12, Th22, ValuesAt, Variant, WiringData, [], all_data_function, all_table, ap, arith, at, at_rail, at_table, conjunction, data_fronts, data_functions, false, front_tables, fronts, function_tables_by, gate_table, get_or, get_or-map, get_or-take, get_or_push, has_data, have-at, have-length, illegal_functions, is_illegal, length, length-append, length-map, length-take-le, list_all, list_all-append, map, map-append, map-map, net_functions, net_table_by, net_tables_by, nets_of, option_map, pair_table, place_in, placed, rail_nets, rail_places, refl, set_of, shared_tables_by, subst, suc, sym, table_of, table_of-same, take, take_all, take_more, true, val, words_by, zero, ℕ, ◌&&◌, ◌++◌, ◌+◌, ◌-◌, ◌<◌, ◌^◌, ◌||◌, ◌∙◌, ◌∷◌, ◌≡◌, ◌≤◌, and_gate, or_gate, table_of-at}
 use Rattle.ncl_stage.proofs.OrderedTables.{ordered-at, ordered-same}
 use Rattle.ncl_stage.proofs.PlaceLaws.{place_in-at}
-
--- a table is that of its values
-pub table_of-at : (n : ℕ) (t : List Bool) → length t ≡ 2 ^ n → table_of (words n) (at t) ≡ t
-table_of-at zero [] e = absurd (omega arith)
-table_of-at zero (b ∷ []) e = refl
-table_of-at zero (b ∷ c ∷ t) e = absurd (omega arith)
-table_of-at (suc n) t e =
-    let l : List Bool = take (2 ^ n) t in
-    let h : List Bool = drop (2 ^ n) t in
-    let cut : l ++ h ≡ t = take-append-drop (2 ^ n) t in
-    let p = pow_suc n in
-    let low : length l ≡ 2 ^ n = length-take-le (2 ^ n) t (omega arith) in
-    let high : length h ≡ 2 ^ n = omega (arith, length-append l h, ap length cut) in
-    ap (λ u. table_of (words (suc n)) (at u)) (sym cut)
-    ∙ table_of-halves n (at (l ++ h))
-    ∙ (λ i. (table_of-same n (λ w. at (l ++ h) (false ∷ w)) (at l) (λ w same. at-low l h w (low ∙ ap (λ k. 2 ^ k) (sym same))) ∙ table_of-at n l low) i
-    ++ (table_of-same n (λ w. at (l ++ h) (true ∷ w)) (at h) (λ w same. at-high l h w (low ∙ ap (λ k. 2 ^ k) (sym same))) ∙ table_of-at n h high) i)
-    ∙ cut
 
 take_none : {X : Type 0} (l : List X) → take zero l ≡ []
 take_none [] = refl
@@ -44,17 +26,6 @@ fronts-map f (x ∷ xs) = ap (λ l. (f x ∷ []) ∷ l) (ap (map (λ front. f x 
     over : (ls : List (List _)) → map (λ front. f x ∷ front) (map (map f) ls) ≡ map (map f) (map (λ front. x ∷ front) ls)
     over [] = refl
     over (l ∷ ls) = ap (λ rest. (f x ∷ map f l) ∷ rest) (over ls)
-
--- two of a gate
-pub or_gate : (a b : Bool) → set_of Th12 (a ∷ b ∷ []) ≡ (a || b)
-or_gate true b = refl
-or_gate false true = refl
-or_gate false false = refl
-
-pub and_gate : (a b : Bool) → set_of Th22 (a ∷ b ∷ []) ≡ (a && b)
-and_gate true true = refl
-and_gate true false = refl
-and_gate false b = refl
 
 and_all : (a b : Bool) → (a && (b && true)) ≡ (a && b)
 and_all true true = refl

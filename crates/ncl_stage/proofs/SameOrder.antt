@@ -1,7 +1,6 @@
 -- The bit order of a stage does not depend on the order in which its cells are listed.
-use Rattle.ncl_stage.proofs.Terms.{Contains-from_Member, Contains-permutation, IsPermutation, IsPermutation-sym, IsStage, List, Member, Member-from_Contains, StageCell, StageData, [], ap, bit_order, bits_from, cases_eq, driver_of, flat_map, here, inl, inr, length, length_permutation, map, member_cases, met, out_of, rail_nets, range_with_len, read_by, refl, right-differ, suc, sym, there, with_bits, zero, ℕ, ◌++◌, ◌∙◌, ◌∷◌, ◌≡◌, ◌⊎◌}
+use Rattle.ncl_stage.proofs.Terms.{Contains-from_Member, Contains-permutation, IsPermutation, IsPermutation-sym, IsStage, List, Member, Member-from_Contains, StageCell, StageData, [], ap, bit_order, bits_from, cases_eq, driver_of, flat_map, here, inl, inr, length, length_permutation, map, member_cases, met, out_of, rail_nets, range_with_len, read_by, refl, right-differ, suc, sym, there, with_bits, zero, ℕ, ◌++◌, ◌∙◌, ◌∷◌, ◌≡◌, ◌⊎◌, with_cells}
 use Rattle.ncl_stage.proofs.BitOrderLaws.{driver-none, driver-some, flat_map_same}
-use Rattle.ncl_stage.proofs.Reordered.{with_cells}
 
 -- some cell drives the net, or none does
 driver-cases : (cells : List StageCell) (net : ℕ) → ((c : StageCell) × Member c cells × (out_of c ≡ net)) ⊎ ((c : StageCell) → Member c cells → out_of c ≡ net → ⊥)

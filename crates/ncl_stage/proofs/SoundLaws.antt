@@ -1,7 +1,6 @@
 -- In a sound stage each net that is high is observed.
-use Rattle.ncl_stage.proofs.Terms.{All-contains, AreObserved, Base, Bit, Bool, Cell, Contains, Contains-from_Member, Incomplete, IsSound, IsStage, IsWordOf, List, Member, Member-append_cases, Member-append_left, Member-append_right, Member-from_Contains, Member-map, NetId, Nets, NoRail, Orphan, Rails, Some, StageCell, StageData, Variant, [], all_data, among, and_parts, ap, append_assoc, both_rails, both_ways, cases_eq, cond, eq-eqb, falls_with, false, false_from_ne_true, get_or, get_or_from_slice_get, has_data, here, holds, holds_at, inl, inr, is_value, kept_low, list_all, map, member_cases, member_of_map, named_rails, nat_eq, ne_eqb, nets_of, not, or_cases, or_left, or_right, out_of, output_net, rail_nets, rail_of, recursion_from_members, refl, set_of-grows, slice_get, slice_get-from_Contains, slice_get_within, subst, sym, there, true, val, val-output, val-rail, val-within, with_net, ℕ, ◌&&◌, ◌++◌, ◌||◌, ◌∙◌, ◌∷◌, ◌≡◌, ◌⊎◌}
+use Rattle.ncl_stage.proofs.Terms.{All-contains, AreObserved, Base, Bit, Bool, Cell, Contains, Contains-from_Member, Incomplete, IsSound, IsStage, IsWordOf, List, Member, Member-append_cases, Member-append_left, Member-append_right, Member-from_Contains, Member-map, NetId, Nets, NoRail, Orphan, Rails, Some, StageCell, StageData, Variant, [], all_data, among, and_parts, ap, append_assoc, both_rails, both_ways, cases_eq, cond, eq-eqb, falls_with, false, false_from_ne_true, get_or, get_or_from_slice_get, has_data, here, holds, holds_at, inl, inr, is_value, kept_low, list_all, map, member_cases, member_of_map, named_rails, nat_eq, ne_eqb, nets_of, not, or_cases, or_left, or_right, out_of, output_net, rail_nets, rail_of, recursion_from_members, refl, set_of-grows, slice_get, slice_get-from_Contains, slice_get_within, subst, sym, there, true, val, val-output, val-rail, val-within, with_net, ℕ, ◌&&◌, ◌++◌, ◌||◌, ◌∙◌, ◌∷◌, ◌≡◌, ◌⊎◌, left-differ, named-at}
 use Rattle.std.proofs.Common.{append-nil}
-use Rattle.ncl_stage.proofs.NetLaws.{left-differ, named-at}
 use Rattle.ncl_stage.proofs.ObservedLaws.{rail-cases}
 use Rattle.ncl_stage.proofs.ObservingLaws.{rails-listed}
 

@@ -1,7 +1,6 @@
 -- Where two words agree on the bits on which a net can depend, the net has one value, under every variant.
-use Rattle.ncl_stage.proofs.Terms.{AgreeOn, All-contains, AreSupports, Bool, Contains, Contains-from_Member, IsStage, IsWordOf, List, Marks, Member, Member-append_cases, Member-append_left, Member-append_right, Member-from_Contains, Member-map, NetId, Rails, Some, StageCell, StageData, Variant, [], among, ap, append_assoc, false, get_or, get_or_from_slice_get, here, inl, inr, is_value, kept_low, length, map, member_cases, member_of_map, named_rails, nets_of, not, out_of, pin_values, rail_nets, rail_of, refl, set_of, slice_get, slice_get-from_Contains, slice_get_within, subst, sym, there, true, val, val-output, val-rail, ℕ, ◌&&◌, ◌++◌, ◌<◌, ◌∙◌, ◌∷◌, ◌≡◌}
+use Rattle.ncl_stage.proofs.Terms.{AgreeOn, All-contains, AreSupports, Bool, Contains, Contains-from_Member, IsStage, IsWordOf, List, Marks, Member, Member-append_cases, Member-append_left, Member-append_right, Member-from_Contains, Member-map, NetId, Rails, Some, StageCell, StageData, Variant, [], among, ap, append_assoc, false, get_or, get_or_from_slice_get, here, inl, inr, is_value, kept_low, length, map, member_cases, member_of_map, named_rails, nets_of, not, out_of, pin_values, rail_nets, rail_of, refl, set_of, slice_get, slice_get-from_Contains, slice_get_within, subst, sym, there, true, val, val-output, val-rail, ℕ, ◌&&◌, ◌++◌, ◌<◌, ◌∙◌, ◌∷◌, ◌≡◌, left-differ, named-at}
 use Rattle.std.proofs.Common.{append-nil}
-use Rattle.ncl_stage.proofs.NetLaws.{left-differ, named-at}
 use Rattle.ncl_stage.proofs.ObservedLaws.{rail-cases}
 
 -- the net has one value at words that agree on its marks

@@ -13,7 +13,7 @@ pub use Rattle.std.proofs.lemmas.List.Elements.{All-append, All-cons, All-contai
 pub use Rattle.std.proofs.lemmas.List.Folds.{list_all-append}
 pub use Rattle.std.proofs.lemmas.List.FromFn.{get_or-range_with_len, length-range_with_len, map-range_with_len_more}
 pub use Rattle.std.proofs.lemmas.List.Quantifiers.{position-Some}
-pub use Rattle.std.proofs.lemmas.List.Sorted.{Contains-permutation, IsPermutation-append, IsPermutation-append_left, IsPermutation-append_right, IsPermutation-map, IsPermutation-sym, length_permutation, list_any-IsPermutation}
+pub use Rattle.std.proofs.lemmas.List.Sorted.{Contains-permutation, IsPermutation-append, IsPermutation-append_left, IsPermutation-append_right, IsPermutation-map, IsPermutation-sym, length_permutation}
 pub use Rattle.std.proofs.lemmas.List.Sums.{sum_by-set}
 pub use Rattle.std.proofs.lemmas.Map.Keys.{IsDistinct-push}
 pub use Rattle.std.proofs.lemmas.Map.Steps.{le-length_from_below, length-le_from_distinct_below}
@@ -34,16 +34,19 @@ pub use Rattle.ncl_base.proofs.ListTables.{grows-along, nothing-at, put-more}
 pub use Rattle.ncl_base.proofs.Ranges.{Member-range, below_of_range, range_with_len-more}
 pub use Rattle.ncl_base.proofs.Tests.{from_test, map-same, stands_or_not}
 pub use Rattle.ncl_base.specs.ListTables.{Grows, items_at}
-pub use Rattle.ncl_faults.proofs.Apart.{named-within, parts-differ, right-differ}
+pub use Rattle.ncl_faults.proofs.Apart.{parts-differ, right-differ}
+pub use Rattle.ncl_faults.proofs.NamedRails.{named-at, rail-member}
+pub use Rattle.ncl_faults.proofs.Reordered.{IsSameVariant, base, bit, cell, same_values, with_cells}
 pub use Rattle.ncl_faults.proofs.StageTest.{IsStage-from_test}
 pub use Rattle.ncl_faults.proofs.ValueLaws.{holds-grows, rail-no_output, val-below_base, val-output, val-rail, val-within}
-pub use Rattle.ncl_faults.proofs.WiringLaws.{AllDiffer, at_rail, cell-read, insert_out, insert_rails, one-member, reads-within, zero-member}
+pub use Rattle.ncl_faults.proofs.WiringLaws.{AllDiffer, at_rail, cell-read, insert_out, insert_rails, left-differ, one-member, reads-within, zero-member}
 pub use Rattle.ncl_faults.specs.Examples.{adder_stage, and_stage, crossed_stage, dead_rail_stage, eager_and_stage, gate, orphan_and_stage, straight_stage, sum_stage, swapped_stage, unmet_stage}
 pub use Rattle.ncl_faults.specs.Faults.{BothRails, Incomplete, IsSound, IsWordOf, NoRail, Orphan, StageFault, all_data, has_data, holds_at, is_illegal, shows}
-pub use Rattle.ncl_faults.specs.Values.{both_rails, holds, kept_low, output_net, rises, start, val}
+pub use Rattle.ncl_faults.specs.Values.{both_rails, holds, kept_low, output_net, val}
 pub use Rattle.ncl_faults.specs.declared.variant.Variant.{Variant}
 pub use Rattle.ncl_faults.specs.declared.variant.Variant.TheVariants.{Base, Bit, Cell}
 pub use Rattle.ncl_gates.proofs.DualLaws.{dual-arity, dual-set, dual_pins-length, dual_pins-map}
+pub use Rattle.ncl_gates.proofs.GateLaws.{and_gate, or_gate}
 pub use Rattle.ncl_gates.specs.Dual.{crossed, dual_of, dual_pins, is_crossed}
 pub use Rattle.ncl_gates.specs.Gate.{arity_of, set_of}
 pub use Rattle.ncl_gates.specs.declared.kind.Kind.{Kind}
@@ -52,7 +55,7 @@ pub use Rattle.ncl_netlist.specs.declared.ids.NetId.{NetId}
 pub use Rattle.ncl_shape.proofs.ClosureLaws.{set_of-grows}
 pub use Rattle.ncl_shape.proofs.RailLaws.{rails-length}
 pub use Rattle.ncl_shape.specs.Closure.{pin_values}
-pub use Rattle.ncl_shape.specs.Nets.{IsBelow, Nets, among, round, rounds, with_net}
+pub use Rattle.ncl_shape.specs.Nets.{IsBelow, Nets, among, with_net}
 pub use Rattle.ncl_shape.specs.Stage.{IsStage, StageData, named_rails, nets_of, out_of, rail_nets, rail_of}
 pub use Rattle.ncl_shape.specs.declared.rails.Rails.{Rails}
 pub use Rattle.ncl_shape.specs.declared.stage.StageCell.{StageCell}
@@ -60,7 +63,7 @@ pub use Rattle.ncl_space.proofs.BeadLaws.{bead_count-computes, bead_count-permut
 pub use Rattle.ncl_space.proofs.BoundLaws.{Member-words}
 pub use Rattle.ncl_space.proofs.MakingLaws.{Making, handed_on, have-at, have-kept, have-length, held-along, makes-live, making-next, making-none, making-one, map-cut, too_much-after, too_much-front, too_much-next, with_tables-live}
 pub use Rattle.ncl_space.proofs.SpaceLaws.{keeps_all, keeps_along, too_much_by_front}
-pub use Rattle.ncl_space.proofs.TableLaws.{at-high, at-low, at_table, least-table_of, least-zero_table_of, length-table_of, pow_suc, table_of-halves, table_of-same}
+pub use Rattle.ncl_space.proofs.TableLaws.{at_table, least-table_of, least-zero_table_of, length-table_of, table_of-at, table_of-same}
 pub use Rattle.ncl_space.specs.Beads.{beads_of}
 pub use Rattle.ncl_space.specs.Functions.{at, constant_table, gate_table, is_value, least, rail_table}
 pub use Rattle.ncl_space.specs.Making.{HaveTables, MakesAll}

@@ -44,7 +44,8 @@ pub use Rattle.ncl_command.specs.declared.command.TheConstants.{MOST_NODES as LI
 pub use Rattle.ncl_compile.proofs.NoWordsHeld.{no_words_held}
 pub use Rattle.ncl_compile.specs.Compiled.{Compiled, ComputesModel, IsPlain, net_named}
 pub use Rattle.ncl_compile.specs.Ports.{names_of_rails}
-pub use Rattle.ncl_compile.specs.Size.{CanBeCompiled, IsCompileFault, IsSlim}
+pub use Rattle.ncl_network.specs.Size.{CanBeCompiled, IsSlim}
+pub use Rattle.ncl_compile.specs.TooLarge.{IsCompileFault}
 pub use Rattle.ncl_compile.specs.declared.fault.CompileFault.{CompileFault}
 pub use Rattle.ncl_compile.specs.declared.fault.CompileFault.TheVariants.{TooLong, TooMany, TooWide}
 pub use Rattle.ncl_delay.specs.DelayText.{cell_names, fault_in}

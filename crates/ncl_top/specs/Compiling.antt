@@ -12,7 +12,8 @@ use Rattle.ncl_compile.specs.declared.fault.CompileFault.TheVariants.{Memory}
 use Rattle.ncl_lines.specs.Line.{line}
 use Rattle.ncl_report.specs.BlifText.{blif_line}
 use Rattle.ncl_top.specs.CompileText.{compile_line}
-use Rattle.ncl_compile.specs.Size.{IsCompileFault, CanBeCompiled}
+use Rattle.ncl_network.specs.Size.{CanBeCompiled}
+use Rattle.ncl_compile.specs.TooLarge.{IsCompileFault}
 use Rattle.ncl_compile.specs.Compiled.{Compiled}
 use Rattle.ncl_merge.specs.Merged.{Merged}
 

@@ -32,6 +32,7 @@ pub use Rattle.ncl_base.specs.declared.memory.Memory.{Memory}
 pub use Rattle.ncl_complete.specs.RailFaults.{first_rail_fault_by, found_fault_by, rail_fault}
 pub use Rattle.ncl_complete.specs.declared.rail_fault.RailFault.{RailFault}
 pub use Rattle.ncl_faults.proofs.Apart.{same_from_value}
+pub use Rattle.ncl_faults.proofs.Reordered.{IsSameVariant, base, bit, cell, same_values, with_cells}
 pub use Rattle.ncl_faults.proofs.ValueLaws.{val-output, val-rail}
 pub use Rattle.ncl_faults.proofs.WiringLaws.{at_rail}
 pub use Rattle.ncl_faults.specs.Examples.{adder_stage, and_stage, crossed_stage, dead_rail_stage, eager_and_stage, orphan_and_stage, straight_stage, sum_stage, swapped_stage}
@@ -77,7 +78,7 @@ pub use Rattle.ncl_stage.proofs.ObservedLaws.{sound_from_observed}
 pub use Rattle.ncl_stage.proofs.OrderLaws.{Member-words_by, length-placed, placed-at, words_by-length}
 pub use Rattle.ncl_stage.proofs.OrderedTables.{order-is, ordered-table, placed-length}
 pub use Rattle.ncl_stage.proofs.OutputLaws.{fronts-map, outputs-within, shared-tables, values_at}
-pub use Rattle.ncl_stage.proofs.Reordered.{IsSameVariant, base, bit, cell, same_count, same_values, with_cells}
+pub use Rattle.ncl_stage.proofs.Reordered.{same_count}
 pub use Rattle.ncl_stage.proofs.SameOrder.{same_order}
 pub use Rattle.ncl_stage.proofs.SupportLaws.{told}
 pub use Rattle.ncl_stage.proofs.Unvisited.{place-of}

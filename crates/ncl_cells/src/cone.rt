@@ -28,6 +28,15 @@ pub struct Leaves {
     pub fourth: SignalSource,
 }
 
+/// A node that is offered in place of another.
+#[derive(Debug, Drop)]
+pub struct Offer {
+    /// The node. It reads inputs, and nodes before the one whose place it takes.
+    pub node: Node,
+    /// Four sources. Both nodes, and what the offered one reads, are to be computed of these through few nodes.
+    pub leaves: Leaves,
+}
+
 /// The bit that is known of a source. Linear in what is known.
 pub(crate) fn known_bit(known: &[Known], from: SignalSource) -> Result<bool, Stop>
     ensures { IfOk result (λ bit. (value : SignalSource → Bool) → IsKnown value known.now → value from ≡ bit) }

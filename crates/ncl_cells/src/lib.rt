@@ -46,10 +46,9 @@ mod trying;
 mod way;
 
 pub use carries::carries_first;
-pub use cone::Leaves;
+pub use cone::{Leaves, Offer};
 pub use cone_table::table_over;
 pub use improving::improve;
-pub use offer::Offer;
 pub use recasting::recast;
 pub use reordering::reordered;
 pub use way::{Way, may_relax};

@@ -2,7 +2,7 @@
 ghost use Rattle.std.specs.Prelude.{◌≡◌, true, OnOk, IfOk, All, length};
 ghost use Rattle.ncl_cells.specs.Recasts.{VariesBefore, MayRead, Agrees, AgreesAt, MayStand};
 
-use crate::cone::{Leaves, known_bit, node_bit};
+use crate::cone::{Offer, known_bit, node_bit};
 use crate::evaluating::known_at;
 use crate::freeing::{add_inner, cone_from};
 use crate::stop::Stop;
@@ -11,15 +11,6 @@ use ncl_blif::Row;
 use ncl_decomp::table::word_of;
 use ncl_network::{Network, Node, Signal, SignalSource};
 use std::alloc::Global;
-
-/// A node that is offered in place of another.
-#[derive(Debug, Drop)]
-pub struct Offer {
-    /// The node. It reads inputs, and nodes before the one whose place it takes.
-    pub node: Node,
-    /// Four sources. Both nodes, and what the offered one reads, are to be computed of these through few nodes.
-    pub leaves: Leaves,
-}
 
 /// Whether a signal is of an input or of a node before a place.
 fn varies_before(inputs: u32, place: u32, signal: Signal) -> bool

@@ -8,13 +8,10 @@ ghost use Rattle.ncl_cells.specs.Cones.{signal_in};
 ghost use Rattle.ncl_rails.specs.Waiting.{HasBits, WaitsFor, IsAwaited, IsHeld, IsCovered, waits_of};
 ghost use Rattle.ncl_template.specs.Waits.{waits_at, all_inputs};
 
-use crate::together::{MOST_SOURCES, Together};
 use arrayvec::ArrayVec;
+use ncl_joins::{MOST_HOLDERS, MOST_SOURCES, Together};
 use ncl_network::{Network, Signal, SignalSource};
 use ncl_template::Waits;
-
-/// The most nodes that hold a source together.
-pub(crate) const MOST_HOLDERS: usize = 6;
 
 /// What shows that an output waits for a source: the place of an output of it, the number of a node that waits for it at
 /// every word, or those of nodes of which one waits for it at each word of what they read.

@@ -1,29 +1,20 @@
 //! What nodes wait for: a node need not wait for what another waits for.
-ghost use Rattle.std.specs.Prelude.{◌<◌, ◌^◌, true, length, IfOk};
+ghost use Rattle.std.specs.Prelude.{◌<◌, ◌^◌, length, IfOk};
 ghost use Rattle.ncl_rails.specs.Complete.{IsComplete};
 ghost use Rattle.ncl_rails.specs.Waiting.{IsCovered, waits_of};
 
-use crate::by_source::BySource;
-use crate::held::{Cover, MOST_HOLDERS, is_covered, is_shared, waits_at};
-use crate::joiner::Joiner;
+use crate::held::{Cover, is_covered, is_shared, waits_at};
 use ncl_base::Memory;
-use ncl_cells::may_relax;
+use ncl_joins::{BySource, MOST_HOLDERS, waits_found};
 use ncl_network::{Network, Signal, SignalSource};
 use ncl_template::{Waits, fit_of};
 use std::alloc::Global;
 
-/// What each node waits for; where none is told, each waits for all. Linear in the network.
-fn waits_found(alloc: Global, network: &Network) -> Result<Vec<Waits>, Memory> {
-    if !may_relax(network) {
-        return Ok(Vec::new(alloc));
-    }
-    let mut joiner = Joiner::new(alloc, network, true)?;
-    joiner.relax(2, 4)?;
-    Ok(joiner.joins()?.waits)
-}
-
 /// What is claimed to hold each input and each node.
-type Claims = BySource<Cover>;
+#[derive(Drop)]
+struct Claims {
+    covers: BySource<Cover>,
+}
 
 /// Adds a node to those that hold a source together.
 fn joined(cover: Cover, by: u32) -> Cover {
@@ -47,15 +38,18 @@ fn is_unheld(network: &Network, waits: &[Waits], cover: Cover, source: SignalSou
     }
 }
 
-impl BySource<Cover> {
+impl Claims {
     /// An output that is of it, or a node that waits for it, or nodes that do at some words. Linear in the network.
     fn made(alloc: Global, network: &Network, waits: &[Waits]) -> Result<Claims, Memory> {
-        let mut claims = BySource::all(alloc, network, Cover::Waiters([u32::MAX; MOST_HOLDERS]))?;
+        let none = Cover::Waiters([u32::MAX; MOST_HOLDERS]);
+        let mut claims = Claims {
+            covers: BySource::all(alloc, network, none)?,
+        };
         for (by, node) in network.nodes.items().iter().enumerate() {
             claims.claim(by, node.ins.items(), waits_at(waits, by));
         }
         for (at, signal) in network.outputs.items().iter().enumerate() {
-            if let Some(cover) = claims.get_mut(signal.from) {
+            if let Some(cover) = claims.covers.get_mut(signal.from) {
                 *cover = Cover::Output(at);
             }
         }
@@ -65,7 +59,7 @@ impl BySource<Cover> {
     /// A node for the sources of the signals that it waits for.
     fn claim(&mut self, by: usize, ins: &[Signal], waits: Waits) {
         for (place, signal) in ins.iter().enumerate() {
-            let Some(cover) = self.get_mut(signal.from) else {
+            let Some(cover) = self.covers.get_mut(signal.from) else {
                 continue;
             };
             if waits.always(place) {
@@ -80,7 +74,7 @@ impl BySource<Cover> {
 
     /// Whether nothing holds a source as is claimed. What holds it is not asked again.
     fn is_open(&mut self, network: &Network, waits: &[Waits], source: SignalSource) -> bool {
-        let Some(cover) = self.get_mut(source) else {
+        let Some(cover) = self.covers.get_mut(source) else {
             return false;
         };
         let claimed = *cover;
@@ -129,7 +123,8 @@ pub(crate) fn told_or_all(
 {
     let waits = raised(alloc, network, waits)?;
     let claims = Claims::made(alloc, network, &waits)?;
-    if is_covered(network, &waits, &claims.inputs, &claims.nodes) {
+    let covers = &claims.covers;
+    if is_covered(network, &waits, &covers.inputs, &covers.nodes) {
         return Ok(waits);
     }
     let none = Vec::new(alloc);

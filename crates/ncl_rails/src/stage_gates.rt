@@ -8,14 +8,11 @@ ghost use Rattle.ncl_rails.specs.GatesOf.{CanHaveGates, AreGatesOf};
 
 use crate::complete::complete;
 use crate::depth::depth;
-use crate::joiner::Joins;
 use crate::layout::{Layout, lay_out};
-use crate::pairing::joins_of;
 use crate::relaxing::{relaxed, told_or_all};
-use crate::summing::has_sums;
-use crate::timing::reckoned_depth;
 use ncl_base::Memory;
 use ncl_cells::{Way, carries_first, improve, recast, reordered};
+use ncl_joins::{Joins, has_sums, joins_of, reckoned_depth};
 use ncl_network::Network;
 use ncl_template::Waits;
 use std::alloc::Global;

@@ -215,7 +215,7 @@ fn carried(carry: u32) -> Signal {
 
 /// Whether sums of a network can be made beside carries, such that no more than so many gates stand one after another. Near linear in
 /// the network. The only error is want of memory.
-pub(crate) fn has_sums(alloc: Global, network: &Network, most: u32) -> Result<bool, Memory> {
+pub fn has_sums(alloc: Global, network: &Network, most: u32) -> Result<bool, Memory> {
     let joiner = Joiner::new(alloc, network, false)?;
     let sums = joiner.sums(most)?;
     Ok(!sums.is_empty())

@@ -6,8 +6,10 @@ use std::alloc::Global;
 
 /// What is kept for each input and each node of a network.
 #[derive(Drop)]
-pub(crate) struct BySource<T> {
+pub struct BySource<T> {
+    /// For each input, by its number.
     pub inputs: Vec<T>,
+    /// For each node, by its place.
     pub nodes: Vec<T>,
 }
 
@@ -21,7 +23,7 @@ impl<T: Copy> BySource<T> {
     }
 
     /// The same for each. Linear in the network.
-    pub(crate) fn all(alloc: Global, network: &Network, each: T) -> Result<Self, Memory> {
+    pub fn all(alloc: Global, network: &Network, each: T) -> Result<Self, Memory> {
         Ok(BySource {
             inputs: vec![in alloc; each; network.inputs as usize]?,
             nodes: vec![in alloc; each; network.nodes.items().len()]?,
@@ -38,7 +40,7 @@ impl<T: Copy> BySource<T> {
     }
 
     /// The same, to be changed.
-    pub(crate) fn get_mut(&mut self, source: SignalSource) -> Option<&mut T> {
+    pub fn get_mut(&mut self, source: SignalSource) -> Option<&mut T> {
         match source {
             SignalSource::Input(i) => self.inputs.get_mut(i as usize),
             SignalSource::Node(k) => self.nodes.get_mut(k as usize),

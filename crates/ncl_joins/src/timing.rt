@@ -100,7 +100,7 @@ impl Timing {
 }
 
 /// How many gates stand one after another at most, where each node waits for all that it reads. Linear in the network.
-pub(crate) fn reckoned_depth(alloc: Global, network: &Network) -> Result<u32, Memory> {
+pub fn reckoned_depth(alloc: Global, network: &Network) -> Result<u32, Memory> {
     let mut own = Vec::new(alloc);
     for node in network.nodes.items() {
         own.push(fit_of(node, Waits::ALL).levels)?;

@@ -1,8 +1,7 @@
 //! Nodes that hold a source together: each waits for it at some words.
 ghost use Rattle.std.specs.Prelude.{◌≤◌, length};
 
-use crate::held::MOST_HOLDERS;
-use crate::together::{MOST_SOURCES, Together};
+use crate::together::{MOST_HOLDERS, MOST_SOURCES, Together};
 use arrayvec::ArrayVec;
 use ncl_network::{Signal, SignalSource};
 use ncl_template::Waits;

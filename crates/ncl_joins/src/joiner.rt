@@ -30,8 +30,10 @@ pub(crate) struct Slot {
 
 /// Joined nodes as they are offered, by their places, and what each node waits for that is left.
 #[derive(Drop)]
-pub(crate) struct Joins {
+pub struct Joins {
+    /// What is offered in the place of each node.
     pub offers: Vec<Option<Offer>>,
+    /// What each node waits for that is left.
     pub waits: Vec<Waits>,
 }
 

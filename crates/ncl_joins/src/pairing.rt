@@ -73,7 +73,7 @@ impl<'a> Joiner<'a> {
 /// waits for. No more gates than one number then stand one after another, as is reckoned, but for sums beside carries, for which there
 /// is another number. Nothing where none is joined. Where nodes may not wait for less, sums and their carries alone do. Near linear in
 /// the network. The only error is want of memory.
-pub(crate) fn joins_of(
+pub fn joins_of(
     alloc: Global,
     network: &Network,
     most_of_sums: u32,

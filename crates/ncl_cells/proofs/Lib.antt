@@ -1,10 +1,4 @@
 mod Terms
-pub mod Smalls
-pub mod Forms
-pub mod Pools
-pub mod AddedOps
-pub mod Plans
-pub mod Cones
 pub mod Remade
 pub mod StandIns
 pub mod Orders

@@ -1,6 +1,6 @@
 -- Nodes in another order have the same bits.
 use Rattle.ncl_cells.proofs.Terms.{All, All-at, All-cons, All-head, All-nil, All-push, All-tail, AllZip, AreMoved, Bool, Const, FromNode, Input, IsMoved, IsMovedSource, IsNarrow, IsRebuiltOf, IsSource, IsSplit, List, Lit, Network, Node, None, Option, ReadBefore-push, Signal, SignalSource, Some, [], ap, arith, bit_at, cases_eq, cond, cover_value, false, get_or, get_or-set_other, get_or-set_same, get_or_append_left, get_or_push, inl, inr, is_constant, length, length-node_values, length-set, length_push, map, node_reads, node_value, node_values, node_values-push, not, refl, same_Some, signal_value, slice_get, slice_get_within, slice_set, source_value, subst, suc, sym, zero-add, ℕ, ◌++◌, ◌+◌, ◌<◌, ◌^◌, ◌∙◌, ◌∷◌, ◌≡◌, ◌⊎◌}
-use Rattle.ncl_cells.proofs.Smalls.{bit_of_node}
+use Rattle.ncl_plans.proofs.Smalls.{bit_of_node}
 use Rattle.ncl_cells.proofs.Remade.{IsInOrder-narrow}
 
 -- ---- what is moved

@@ -1,8 +1,8 @@
 -- The nodes of a network as signals of small nodes, one node further.
 use Rattle.ncl_cells.proofs.Terms.{Adds, All, All-head, All-nil, All-push, All-tail, AreImagesOf, AreRemade, Bool, Computes, IsImageOf, IsInOrder, IsNarrow, IsNarrow-cost, IsPool, IsRebuiltOf, IsSource, IsSplit, Leaves, List, Network, Node, Plan, ReadBefore, Signal, Small, Some, [], ap, arith, bit_at, bits_of, cond, cost_of_inputs, cost_of_nodes, get_or, get_or_from_slice_get, inl, inr, leaf_signals, length, length-map, map, map_push, node_values, not, plain, plan_value, refl, same_Some, signal_value, slice_get, slice_get_within, small_node, source_value, subst, suc, sum_by-cons, sym, turned_by, zero, ℕ, ⊎_elim, ◌++◌, ◌<◌, ◌^◌, ◌∙◌, ◌∷◌, ◌≡◌, ◌≤◌, ◌⊎◌}
-use Rattle.ncl_cells.proofs.Forms.{turned_by-value}
-use Rattle.ncl_cells.proofs.Pools.{IsPool-none, Adds-exists, Adds-keeps}
-use Rattle.ncl_cells.proofs.Cones.{respected}
+use Rattle.ncl_plans.proofs.Forms.{turned_by-value}
+use Rattle.ncl_plans.proofs.Pools.{IsPool-none, Adds-exists, Adds-keeps}
+use Rattle.ncl_plans.proofs.Cones.{respected}
 
 -- ---- the images of signals
 

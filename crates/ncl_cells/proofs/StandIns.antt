@@ -1,7 +1,7 @@
 -- Nodes that take the places of others have the same bits.
 use Rattle.ncl_cells.proofs.Terms.{Agrees, AgreesAt, All, All-at, All-head, All-nil, All-push, All-tail, AreRecast, Bool, Const, FromNode, Input, IsInOrder, IsNarrow, IsRebuiltOf, IsSource, IsSplit, Leaves, List, MayStand, Network, Node, ReadBefore-push, Signal, SignalSource, Some, [], answer_of, ap, arith, at_each_word, cases_lt, cond, cover_value, false, get_or, inl, inr, leaf_bits, length, map, node_reads, node_values, not, push_cases, refl, signal_value, slice_get, slice_get-get_or, slice_get_within, source_value, subst, suc, sym, word_of, zero, zero-add, ℕ, ◌++◌, ◌<◌, ◌∙◌, ◌∷◌, ◌≡◌, ◌≤◌}
-use Rattle.ncl_cells.proofs.Smalls.{bit_of_node}
-use Rattle.ncl_cells.proofs.Cones.{respected}
+use Rattle.ncl_plans.proofs.Smalls.{bit_of_node}
+use Rattle.ncl_plans.proofs.Cones.{respected}
 use Rattle.ncl_cells.proofs.Remade.{IsInOrder-narrow}
 
 -- what holds at the word of each number holds

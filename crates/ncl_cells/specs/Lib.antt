@@ -1,9 +1,3 @@
-pub mod Smalls
-pub mod Forms
-pub mod Pools
-pub mod Adding
-pub mod Plans
-pub mod Cones
 pub mod Remade
 pub mod Recasts
 pub mod Reordered

@@ -8,8 +8,8 @@ use Rattle.ncl_network.specs.declared.network.Node.{Node}
 use Rattle.ncl_network.specs.declared.network.Network.{Network}
 use Rattle.ncl_network.specs.Network.{IsSource, ReadBefore, is_constant}
 use Rattle.ncl_decomp.specs.Split.{IsNarrow}
-use Rattle.ncl_cells.specs.declared.cone.Leaves.{Leaves}
-use Rattle.ncl_cells.specs.Cones.{signal_in, Respects, leaf_bits}
+use Rattle.ncl_plans.specs.declared.cone.Leaves.{Leaves}
+use Rattle.ncl_plans.specs.Cones.{signal_in, Respects, leaf_bits}
 
 -- a signal is of an input or of a node before a place
 pub record VariesBefore (inputs place : ℕ) (signal : Signal) : Type 0 where

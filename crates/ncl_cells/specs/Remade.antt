@@ -7,10 +7,10 @@ use Rattle.ncl_network.specs.declared.network.Network.{Network}
 use Rattle.ncl_network.specs.Network.{signal_value, node_values, answer_of, IsSource, ReachesOutput}
 use Rattle.ncl_network.specs.Prune.{IsInOrder}
 use Rattle.ncl_decomp.specs.Split.{IsNarrow}
-use Rattle.ncl_cells.specs.declared.cone.Leaves.{Leaves}
-use Rattle.ncl_cells.specs.declared.small.Small.{Small}
-use Rattle.ncl_cells.specs.Smalls.{bits_of}
-use Rattle.ncl_cells.specs.Pools.{IsPool}
+use Rattle.ncl_plans.specs.declared.cone.Leaves.{Leaves}
+use Rattle.ncl_plans.specs.declared.small.Small.{Small}
+use Rattle.ncl_plans.specs.Smalls.{bits_of}
+use Rattle.ncl_plans.specs.Pools.{IsPool}
 
 -- the signal of a source, and those of leaves
 abbrev pub plain : SignalSource → Signal

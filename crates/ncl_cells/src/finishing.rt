@@ -4,9 +4,9 @@ ghost use Rattle.ncl_network.specs.Prune.{IsInOrder};
 ghost use Rattle.ncl_decomp.specs.Split.{IsNarrow, IsSplit};
 ghost use Rattle.ncl_cells.specs.Remade.{IsSameAs};
 
-use crate::costs::{MOST_COST, cost};
 use ncl_base::Memory;
 use ncl_network::{Network, prune};
+use ncl_plans::{MOST_COST, cost};
 use std::alloc::Global;
 
 /// The network without the nodes that reach no output; nothing where it would cost more than any may. Linear in the

@@ -3,13 +3,11 @@ ghost use Rattle.std.specs.Prelude.{IfOk, IfSome};
 ghost use Rattle.ncl_decomp.specs.Split.{IsSplit};
 ghost use Rattle.ncl_cells.specs.Remade.{IsSameAs};
 
-use crate::choice::Chooser;
-use crate::costs::{MOST_COST, cells, cost};
 use crate::remaking::remake;
-use crate::stop::Stop;
-use crate::way::Way;
 use ncl_base::Memory;
+use ncl_choice::Chooser;
 use ncl_network::Network;
+use ncl_plans::{MOST_COST, Stop, Way, cells, cost};
 use std::alloc::Global;
 
 /// The most rounds: the first takes nodes apart, and the others look through them too.

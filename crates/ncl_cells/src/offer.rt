@@ -2,14 +2,11 @@
 ghost use Rattle.std.specs.Prelude.{◌≡◌, true, OnOk, IfOk, All, length};
 ghost use Rattle.ncl_cells.specs.Recasts.{VariesBefore, MayRead, Agrees, AgreesAt, MayStand};
 
-use crate::cone::{Offer, known_bit, node_bit};
-use crate::evaluating::known_at;
-use crate::freeing::{add_inner, cone_from};
-use crate::stop::Stop;
 use ncl_base::Memory;
 use ncl_blif::Row;
 use ncl_decomp::table::word_of;
 use ncl_network::{Network, Node, Signal, SignalSource};
+use ncl_plans::{Offer, Stop, add_inner, cone_from, known_at, known_bit, node_bit};
 use std::alloc::Global;
 
 /// Whether a signal is of an input or of a node before a place.

@@ -4,12 +4,12 @@ ghost use Rattle.ncl_decomp.specs.Split.{IsSplit};
 ghost use Rattle.ncl_cells.specs.Recasts.{MayStand, AreRecast};
 ghost use Rattle.ncl_cells.specs.Remade.{IsRebuiltOf, IsSameAs};
 
-use crate::cone::Offer;
 use crate::finishing::finished;
 use crate::offer::may_stand;
 use ncl_base::{Items, Memory};
 use ncl_decomp::copied_rows;
 use ncl_network::{Network, Node};
+use ncl_plans::Offer;
 use std::alloc::Global;
 
 /// A copy of a node. Linear in it.

@@ -1,19 +1,13 @@
 //! A network, remade of small nodes.
 ghost use Rattle.std.specs.Prelude.{◌≡◌, ◌<◌, [], IfOk, length};
 ghost use Rattle.ncl_network.specs.Prune.{IsInOrder};
-ghost use Rattle.ncl_cells.specs.Pools.{Adds};
+ghost use Rattle.ncl_plans.specs.Pools.{Adds};
 ghost use Rattle.ncl_cells.specs.Remade.{IsImageOf, AreImagesOf, AreRemade, IsRebuiltOf, IsRemadeOf, bit_at, plain, leaf_signals};
 
-use crate::choice::{Chooser, Turn};
-use crate::cone::Leaves;
-use crate::evaluating::test;
-use crate::form::turned_by;
-use crate::plan::apply;
-use crate::pool::Pool;
-use crate::small::nodes_of;
-use crate::stop::Stop;
 use ncl_base::Items;
+use ncl_choice::{Chooser, Turn};
 use ncl_network::{Network, Signal, SignalSource, prune};
+use ncl_plans::{Leaves, Pool, Stop, apply, nodes_of, test, turned_by};
 use std::alloc::Global;
 
 /// The signal that a source is, where the nodes are these signals.

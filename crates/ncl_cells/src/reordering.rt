@@ -6,10 +6,10 @@ ghost use Rattle.ncl_cells.specs.Remade.{IsRebuiltOf, IsSameAs};
 ghost use Rattle.ncl_cells.specs.Reordered.{IsMovedSource, IsMoved, AreMoved};
 
 use crate::finishing::finished;
-use crate::stop::Stop;
 use ncl_base::{Items, Memory};
 use ncl_decomp::copied_rows;
 use ncl_network::{Network, Node, Signal, SignalSource};
+use ncl_plans::Stop;
 use std::alloc::Global;
 
 /// The source that a source is, where the nodes went to these places.

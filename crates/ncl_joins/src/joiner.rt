@@ -4,8 +4,8 @@ use crate::holders::{Holders, Holding};
 use crate::joint::{Sources, depends_on, node_of};
 use crate::timing::Timing;
 use ncl_base::Memory;
-use ncl_cells::{Leaves, Offer, table_over};
 use ncl_network::{Network, Node, Signal, SignalSource};
+use ncl_plans::{Leaves, Offer, table_over};
 use ncl_template::{Fits, Waits};
 use std::alloc::Global;
 

@@ -2,9 +2,9 @@
 
 use ncl_base::{Items, Memory};
 use ncl_blif::{Lit, Row};
-use ncl_cells::Leaves;
 use ncl_decomp::table::{cofactor, depends, inverted};
 use ncl_network::{Node, Signal, SignalSource};
+use ncl_plans::Leaves;
 use std::alloc::Global;
 
 /// What stands where there is no source.

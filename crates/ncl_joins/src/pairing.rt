@@ -4,8 +4,8 @@ use crate::joiner::{Joiner, Joins};
 use crate::summing::Sum;
 use crate::timing::Timing;
 use ncl_base::Memory;
-use ncl_cells::may_relax;
 use ncl_network::Network;
+use ncl_plans::may_relax;
 use std::alloc::Global;
 
 /// The most nodes of a network whose nodes are joined.

@@ -2,8 +2,8 @@
 
 use crate::joiner::Joiner;
 use ncl_base::Memory;
-use ncl_cells::may_relax;
 use ncl_network::Network;
+use ncl_plans::may_relax;
 use ncl_template::Waits;
 use std::alloc::Global;
 

@@ -28,7 +28,6 @@ pub use Rattle.ncl_base.proofs.Tests.{All-at}
 pub use Rattle.ncl_base.specs.declared.word.TheConstants.{MOST_BITS}
 pub use Rattle.ncl_blif.specs.Meaning.{cover_value}
 pub use Rattle.ncl_blif.specs.declared.model.Lit.TheVariants.{Dash}
-pub use Rattle.ncl_cells.specs.Cones.{signal_in}
 pub use Rattle.ncl_cells.specs.Remade.{IsSameAs}
 pub use Rattle.ncl_decomp.proofs.EachWord.{at_each_word}
 pub use Rattle.ncl_decomp.proofs.Later.{ReadBefore-append, node_values-append, signals_kept}
@@ -67,6 +66,7 @@ pub use Rattle.ncl_network.specs.declared.network.Node.{Node}
 pub use Rattle.ncl_network.specs.declared.network.Signal.{Signal}
 pub use Rattle.ncl_network.specs.declared.network.SignalSource.{SignalSource}
 pub use Rattle.ncl_network.specs.declared.network.SignalSource.TheVariants.{Const, Input, Node as FromNode}
+pub use Rattle.ncl_plans.specs.Cones.{signal_in}
 pub use Rattle.ncl_rails.specs.Complete.{AnswersAs, IsComplete, IsInputBelow, IsVarying, SourceReaches, input_signal, is_among, is_input, is_input_read, output, reader, replaced, true_node, unread_signals}
 pub use Rattle.ncl_rails.specs.GatesOf.{AreGatesOf, CanHaveGates}
 pub use Rattle.ncl_rails.specs.Layout.{AreLaidOut, IsLaidOut, exchanged, input_pair, input_pairs, no_rails, signal_pair, source_pair}

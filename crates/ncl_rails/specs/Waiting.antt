@@ -8,7 +8,7 @@ use Rattle.ncl_network.specs.declared.network.Signal.{Signal}
 use Rattle.ncl_network.specs.declared.network.Node.{Node}
 use Rattle.ncl_network.specs.declared.network.Network.{Network}
 use Rattle.ncl_network.specs.Network.{source_value, node_values}
-use Rattle.ncl_cells.specs.Cones.{signal_in}
+use Rattle.ncl_plans.specs.Cones.{signal_in}
 use Rattle.ncl_template.specs.declared.waits.Waits.{Waits}
 use Rattle.ncl_template.specs.Waits.{waits_at, all_inputs}
 

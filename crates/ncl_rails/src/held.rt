@@ -4,7 +4,7 @@ ghost use Rattle.std.specs.List.{slice_index_or};
 ghost use Rattle.ncl_gates.specs.Bits.{is_set};
 ghost use Rattle.ncl_network.specs.declared.network.SignalSource.{SignalSource as Source};
 ghost use Rattle.ncl_network.specs.declared.network.SignalSource.TheVariants.{Input, Node as FromNode};
-ghost use Rattle.ncl_cells.specs.Cones.{signal_in};
+ghost use Rattle.ncl_plans.specs.Cones.{signal_in};
 ghost use Rattle.ncl_rails.specs.Waiting.{HasBits, WaitsFor, IsAwaited, IsHeld, IsCovered, waits_of};
 ghost use Rattle.ncl_template.specs.Waits.{waits_at, all_inputs};
 

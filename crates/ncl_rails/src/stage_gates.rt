@@ -11,9 +11,11 @@ use crate::depth::depth;
 use crate::layout::{Layout, lay_out};
 use crate::relaxing::{relaxed, told_or_all};
 use ncl_base::Memory;
-use ncl_cells::{Way, carries_first, improve, recast, reordered};
+use ncl_cells::{improve, recast, reordered};
+use ncl_choice::carries_first;
 use ncl_joins::{Joins, has_sums, joins_of, reckoned_depth};
 use ncl_network::Network;
+use ncl_plans::Way;
 use ncl_template::Waits;
 use std::alloc::Global;
 

@@ -1,5 +1,5 @@
 use Rattle.ncl_cells.proofs.Terms.{IsKnown, subst, sym, ◌∙◌}
-use Rattle.ncl_cells.proofs.Cones.{same_bits}
+use Rattle.ncl_plans.proofs.Cones.{same_bits}
 use Rattle.ncl_cells.proofs.offer.Trying.test_word.Goals as goal
 
 pub returns-then-bit-offered : goal.returns-then-bit-offered

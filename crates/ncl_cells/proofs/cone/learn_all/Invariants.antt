@@ -1,6 +1,0 @@
-use Rattle.ncl_cells.proofs.Terms.{Bool, IsKnown, Respects, SignalSource}
-use Rattle.ncl_cells.proofs.cone.learn_all.Given as goal
-
-abbrev pub invariant-loop-place : goal.invariant-loop-place
-invariant-loop-place l =
-    (value : SignalSource → Bool) → Respects l.nodes value → IsKnown value l.initial.known.items → IsKnown value l.known.items

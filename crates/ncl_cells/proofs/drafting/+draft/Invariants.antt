@@ -1,4 +1,0 @@
-use Rattle.ncl_cells.proofs.drafting.+draft.Given as goal
-
-abbrev pub decreases-draft : goal.decreases-draft
-decreases-draft l = l.fuel

@@ -10,7 +10,7 @@ use crate::trying::{Reached, Trial, Trying};
 use ncl_base::Memory;
 use ncl_network::{Network, Node, Signal, SignalSource};
 use ncl_plans::{
-    Arg, Choice, Leaves, Plan, Pool, Stop, Way, cone_of, cone_table, freed, readers_of,
+    Arg, Choice, Leaves, Plan, Pool, Stop, Way, cone_of, freed, readers_of, table_of_cone,
 };
 use std::alloc::Global;
 
@@ -232,7 +232,7 @@ impl Chooser {
         cone: Vec<u32>,
     ) -> Result<Weighed, Stop> {
         let nodes = turn.network.nodes.items();
-        let table = cone_table(alloc, nodes, &cone, leaves)?;
+        let table = table_of_cone(alloc, nodes, &cone, leaves)?;
         let reached = reached_leaves(self.made(turn.images), leaves);
         let plan = self.plan(alloc, table, levels_of(reached))?;
         let freed = freed(alloc, self.way(), nodes, &self.readers, &cone)?;

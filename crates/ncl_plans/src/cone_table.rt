@@ -46,7 +46,7 @@ fn leaf_tables(alloc: Global, leaves: Leaves) -> Result<Vec<Tabled>, Stop> {
 }
 
 /// The table of the last of some nodes over leaves. Linear in the nodes times their number.
-pub fn cone_table(
+pub fn table_of_cone(
     alloc: Global,
     nodes: &[Node],
     cone: &[u32],
@@ -70,7 +70,7 @@ pub fn cone_table(
 /// The table of a node over leaves, if it is computed of them.
 fn found_table(alloc: Global, nodes: &[Node], place: u32, leaves: Leaves) -> Result<u16, Stop> {
     let cone = cone_of(alloc, nodes, place, leaves)?;
-    cone_table(alloc, nodes, &cone, leaves)
+    table_of_cone(alloc, nodes, &cone, leaves)
 }
 
 /// The table of a node of a network over four sources, if it is computed of them through few nodes: bit w is the

@@ -23,7 +23,7 @@ mod stop;
 mod way;
 
 pub use cone::{Known, Leaves, Offer, known_bit, node_bit};
-pub use cone_table::{cone_table, table_over};
+pub use cone_table::{table_of_cone, table_over};
 pub use costs::{MOST_COST, cells, cost, node_cells};
 pub use evaluating::{Choice, known_at, test};
 pub use form::{Form, and, choose, differ, majority, turned_by};

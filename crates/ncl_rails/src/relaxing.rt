@@ -7,7 +7,6 @@ use crate::held::{Cover, is_covered, is_shared, waits_at};
 use ncl_base::Memory;
 use ncl_joins::{BySource, MOST_HOLDERS, waits_found};
 use ncl_network::{Network, Signal, SignalSource};
-use ncl_plans::may_relax;
 use ncl_template::{Waits, fit_of};
 use std::alloc::Global;
 

@@ -8,7 +8,7 @@ ghost use Rattle.ncl_blif.specs.Commands.{field_of};
 use crate::line::Line;
 
 /// A command that is read.
-#[derive(Clone, Copy, Debug, PartialEq, Eq)]
+#[derive(Clone, Copy, PartialEq, Eq)]
 pub(crate) enum Command {
     /// `.model` begins a model.
     Model,

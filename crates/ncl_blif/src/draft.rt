@@ -21,7 +21,7 @@ use std::alloc::Global;
 use std::marker::Model;
 
 /// A model whose signals go by their names. No signal has two drivers.
-#[derive(Drop, Debug)]
+#[derive(Drop)]
 pub(crate) struct Draft<'a> {
     name: &'a [u8],
     body: DraftBody<'a>,

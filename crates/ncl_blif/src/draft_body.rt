@@ -20,7 +20,7 @@ use ncl_base::MOST_BYTES;
 use std::alloc::Global;
 
 /// The inputs, outputs and covers that parts say, and what drives each signal.
-#[derive(Drop, Debug)]
+#[derive(Drop)]
 pub(crate) struct DraftBody<'a> {
     pub(crate) inputs: Vec<&'a [u8]>,
     pub(crate) outputs: Vec<DraftOutput<'a>>,

@@ -15,7 +15,7 @@ use std::alloc::Global;
 use std::marker::Model;
 
 /// A signal that is an output, with the number of the line that says so.
-#[derive(Drop, Debug)]
+#[derive(Drop)]
 pub(crate) struct DraftOutput<'a> {
     line: u32,
     signal: &'a [u8],
@@ -53,7 +53,7 @@ impl<'a> DraftOutput<'a> {
 }
 
 /// A cover, with the number of the line that begins it.
-#[derive(Drop, Debug)]
+#[derive(Drop)]
 pub(crate) struct DraftCover<'a> {
     line: u32,
     ins: Vec<&'a [u8]>,

@@ -8,7 +8,7 @@ use std::alloc::Global;
 use std::collections::BTreeMap;
 
 /// What drives a signal.
-#[derive(Clone, Copy, Debug, PartialEq, Eq)]
+#[derive(Clone, Copy, PartialEq, Eq)]
 pub(crate) enum Driver {
     /// It is the input at this place, from 0.
     Input(u32),
@@ -17,7 +17,7 @@ pub(crate) enum Driver {
 }
 
 /// The signals that have a driver, each with what drives it, in order of their names.
-#[derive(Drop, Debug)]
+#[derive(Drop)]
 pub(crate) struct Drivers<'a> {
     places: BTreeMap<&'a [u8], Driver>,
 }

@@ -65,7 +65,7 @@ impl<'t, 'a> Line<'t, 'a> {
 }
 
 /// The number of a line, and how many fields it has.
-#[derive(Clone, Copy, Debug)]
+#[derive(Clone, Copy)]
 pub(crate) struct Count {
     number: u32,
     fields: usize,

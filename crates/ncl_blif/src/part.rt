@@ -9,7 +9,7 @@ use std::alloc::Global;
 use std::marker::Model;
 
 /// A line that is no row, and the rows that follow it.
-#[derive(Drop, Debug)]
+#[derive(Drop)]
 pub(crate) struct Part<'t, 'a> {
     head: &'t Line<'t, 'a>,
     rows: &'t [Line<'t, 'a>],

@@ -75,7 +75,7 @@ fn nodes_among(alloc: Global, operands: &[Operand]) -> Result<Vec<u32>, Stop> {
 }
 
 /// A function of four leaves.
-#[derive(Clone, Copy, Debug)]
+#[derive(Clone, Copy)]
 pub(crate) struct Wanted {
     pub table: u16,
     pub leaves: [Reached; 4],

@@ -11,7 +11,7 @@ use std::alloc::Global;
 const MOST_OPERANDS: usize = 28;
 
 /// Four leaves: their sources, whether they are inverted, and how late they come.
-#[derive(Clone, Copy, Debug)]
+#[derive(Clone, Copy)]
 pub(crate) struct Ground {
     pub sources: Cut,
     pub inverted: [bool; 4],
@@ -19,7 +19,7 @@ pub(crate) struct Ground {
 }
 
 /// What an operand is.
-#[derive(Clone, Copy, Debug, PartialEq, Eq)]
+#[derive(Clone, Copy, PartialEq, Eq)]
 pub(crate) enum OperandSource {
     /// The leaf with this number.
     Leaf(usize),
@@ -28,7 +28,7 @@ pub(crate) enum OperandSource {
 }
 
 /// A leaf or a small node, its table over the leaves, and how late it comes.
-#[derive(Clone, Copy, Debug, PartialEq, Eq)]
+#[derive(Clone, Copy, PartialEq, Eq)]
 pub(crate) struct Operand {
     pub from: OperandSource,
     pub table: u16,

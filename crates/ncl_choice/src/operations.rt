@@ -7,7 +7,7 @@ use ncl_plans::Op;
 const MOST_DEEP: usize = 14;
 
 /// An operation on two operands, and which of them and whether it itself is inverted.
-#[derive(Clone, Copy, Debug)]
+#[derive(Clone, Copy)]
 pub(crate) struct Operation {
     pub op: Op,
     pub first: Operand,
@@ -17,7 +17,7 @@ pub(crate) struct Operation {
 }
 
 /// An operation on an operand and on another operation.
-#[derive(Clone, Copy, Debug)]
+#[derive(Clone, Copy)]
 pub(crate) struct Second {
     pub op: Op,
     pub first: Operand,

@@ -131,7 +131,7 @@ fn demo<'a>(values: &ArgMatches<'a>) -> Option<Command<'a>>
 }
 
 /// The form of the arguments that follow a command's name.
-#[derive(Clone, Copy, Debug)]
+#[derive(Clone, Copy)]
 enum Form {
     /// `check FILE [--limit N] [--why]`.
     Check,

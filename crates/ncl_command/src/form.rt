@@ -13,7 +13,7 @@ use ncl_base::Memory;
 use std::alloc::{AllocError, Global};
 
 /// An option of a form, by its name.
-#[derive(Clone, Copy, Debug)]
+#[derive(Clone, Copy)]
 pub(crate) enum FormOption<'a> {
     /// It may be given, with a value.
     Optional(&'a str),

@@ -11,7 +11,7 @@ use ncl_base::is_blank;
 use std::marker::Model;
 
 /// A name as it stands in a text, which contracts see as the list of its bytes.
-#[derive(Debug, Drop)]
+#[derive(Drop)]
 pub(crate) struct Written<'a> {
     bytes: &'a [u8],
 }
@@ -34,7 +34,7 @@ impl<'a> Written<'a> {
 }
 
 /// What a line states the delays of.
-#[derive(Debug, Drop)]
+#[derive(Drop)]
 pub(crate) enum Subject<'a> {
     /// Each cell without a line.
     Default,
@@ -47,7 +47,7 @@ pub(crate) enum Subject<'a> {
 }
 
 /// What a line states: the delays of a subject.
-#[derive(Debug, Drop)]
+#[derive(Drop)]
 pub(crate) struct Statement<'a> {
     pub(crate) subject: Subject<'a>,
     pub(crate) edges: Edges,

@@ -19,7 +19,7 @@ const MOST_KEYS: usize = 1 << 22;
 pub(crate) const MOST_KEPT: usize = 1 << 16;
 
 /// A bucket: in the round of this number it has the index of a key, in each other it is free.
-#[derive(Clone, Copy, Debug)]
+#[derive(Clone, Copy)]
 pub(crate) struct Bucket {
     pub(crate) round: u32,
     pub(crate) index: u32,

@@ -9,7 +9,7 @@ use ncl_space::{Ref, SpaceFault};
 use std::alloc::Global;
 
 /// The operands of one operation, filled up with the constant 0.
-#[derive(Clone, Copy, Debug, PartialEq, Eq)]
+#[derive(Clone, Copy, PartialEq, Eq)]
 pub(crate) struct Key {
     pub(crate) a: Ref,
     pub(crate) b: Ref,

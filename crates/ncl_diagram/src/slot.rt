@@ -20,7 +20,7 @@ const FOUND_SHIFT: u32 = 38;
 /// It takes 16 bytes. The first word has 16 bits of pin c, then 24 of b and 24 of a. The second has the
 /// answer's place in its top 26, then 6 of the gate, whose number is 0 where there is no answer, 24 of pin
 /// d, and the 8 higher ones of c.
-#[derive(Clone, Copy, Debug)]
+#[derive(Clone, Copy)]
 pub(crate) struct Slot {
     first: u64,
     second: u64,

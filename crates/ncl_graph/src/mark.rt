@@ -1,7 +1,7 @@
 //! How far a search has come at a place.
 
 /// How far a search has come at a place.
-#[derive(Clone, Copy, Debug)]
+#[derive(Clone, Copy)]
 pub(crate) enum Mark {
     /// The place was not met yet.
     New,

@@ -10,7 +10,7 @@ use ncl_template::{Fits, Waits};
 use std::alloc::Global;
 
 /// What has become of a node.
-#[derive(Clone, Copy, Debug, PartialEq, Eq)]
+#[derive(Clone, Copy, PartialEq, Eq)]
 pub(crate) enum State {
     /// It is as it was.
     Kept,

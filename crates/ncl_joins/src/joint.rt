@@ -11,7 +11,7 @@ use std::alloc::Global;
 const NONE: SignalSource = SignalSource::Const(false);
 
 /// At most four sources, each once.
-#[derive(Clone, Copy, Debug)]
+#[derive(Clone, Copy)]
 pub(crate) struct Sources {
     pub at: [SignalSource; 4],
     pub count: usize,
@@ -113,7 +113,7 @@ fn value(table: u16, word: u16) -> bool {
 }
 
 /// A function of few inputs that rises or stays where some of them rise.
-#[derive(Clone, Copy, Debug)]
+#[derive(Clone, Copy)]
 struct Function {
     table: u16,
     rises: [bool; 4],

@@ -13,7 +13,7 @@ const NONE: Signal = Signal {
 };
 
 /// What a node of at most four inputs reads, and for what it waits.
-#[derive(Clone, Copy, Debug, PartialEq, Eq)]
+#[derive(Clone, Copy, PartialEq, Eq)]
 pub(crate) struct Sharer {
     ins: [Signal; 4],
     count: usize,
@@ -65,7 +65,7 @@ const NO_PLACE: usize = 31;
 
 /// When a node waits for a source, by the number that has the bits of some sources: the places of those that it reads, which of them
 /// are inverted, and at which of its words it waits.
-#[derive(Clone, Copy, Debug, Default, PartialEq, Eq)]
+#[derive(Clone, Copy, Default, PartialEq, Eq)]
 struct Rule {
     places: [usize; 4],
     turned: u32,
@@ -84,7 +84,7 @@ impl Rule {
 }
 
 /// The nodes that wait for a source at some words, at most six.
-#[derive(Clone, Copy, Debug)]
+#[derive(Clone, Copy)]
 pub(crate) struct Few {
     at: [Option<Sharer>; MOST_HOLDERS],
 }

@@ -13,7 +13,7 @@ use std::collections::BTreeMap;
 
 /// The tables of a full adder over the first three of four inputs: those of its carry and of its sum, and that of the sum where the
 /// fourth input is the carry.
-#[derive(Clone, Copy, Debug)]
+#[derive(Clone, Copy)]
 struct Adder {
     carry: u16,
     sum: u16,

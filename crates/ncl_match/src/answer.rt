@@ -14,7 +14,7 @@ pub enum BitAnswer {
 }
 
 /// What is said of outputs that stand one after another. Outputs count from 1.
-#[derive(Clone, Debug, Drop)]
+#[derive(Clone, Drop)]
 pub(crate) enum RunAnswer {
     /// The functions are the same.
     Same,

@@ -11,7 +11,7 @@ use std::alloc::Global;
 use std::marker::Model;
 
 /// A cell that passes DATA on: a gate cell of a stage, or a register cell.
-#[derive(Clone, Debug, Drop)]
+#[derive(Clone, Drop)]
 pub(crate) struct DataCell {
     /// The gate, or none for a register cell.
     pub kind: Option<Kind>,

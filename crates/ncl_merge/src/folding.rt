@@ -51,7 +51,7 @@ fn fold_at(
 }
 
 /// A slot whose cell is folded, and the gate that it is folded with into another.
-#[derive(Debug, Drop)]
+#[derive(Drop)]
 pub(crate) struct Fold {
     pub place: usize,
     pub gate: Gate,
@@ -99,7 +99,7 @@ fn with_gate(cell: StageCell, gate: Gate) -> StageCell
 }
 
 /// A cell, and whether others were folded into it.
-#[derive(Debug, Drop)]
+#[derive(Drop)]
 pub(crate) struct Folded {
     pub cell: StageCell,
     pub folded: bool,
@@ -220,7 +220,7 @@ pub(crate) fn fold_next_stage(
 }
 
 /// The cells of a stage, and whether any were folded.
-#[derive(Debug, Drop)]
+#[derive(Drop)]
 pub(crate) struct StageFolds {
     pub cells: Items<StageCell>,
     pub folded: bool,
@@ -257,7 +257,7 @@ fn fold_or_copy(
 }
 
 /// The folds of all stages.
-#[derive(Debug, Drop)]
+#[derive(Drop)]
 pub(crate) struct AllFolds {
     pub stages: Vec<Items<StageCell>>,
     pub folded: bool,

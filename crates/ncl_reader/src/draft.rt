@@ -25,7 +25,7 @@ pub(crate) type Step = Result<Option<Place>, Memory>;
 
 /// What was read so far: the name of the module, its header and whether declarations stand there, what the declaration
 /// that is read begins with, the names that stand, the instance that is read, and the cells.
-#[derive(Debug, Drop)]
+#[derive(Drop)]
 pub(crate) struct Draft<'a> {
     pub title: &'a [u8],
     pub header: Header<'a>,

@@ -18,7 +18,7 @@ const MOST_VECTOR_BITS: u32 = 1024;
 
 /// What a declaration begins with, as far as it is read: whether it tells outputs, if it gives a direction; its
 /// range, if it has one; and the first number of a range that isn't read whole.
-#[derive(Clone, Copy, Debug)]
+#[derive(Clone, Copy)]
 pub(crate) struct Lead {
     pub output: Option<bool>,
     pub span: Option<Span>,

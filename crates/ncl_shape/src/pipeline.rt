@@ -38,7 +38,7 @@ impl<'a> Model for Pipeline<'a> {
 }
 
 /// The parts of a pipeline but its netlist.
-#[derive(Debug, Drop)]
+#[derive(Drop)]
 pub(crate) struct Parts {
     pub(crate) banks: Items<Bank>,
     pub(crate) stages: Items<Stage>,

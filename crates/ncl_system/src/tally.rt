@@ -8,7 +8,7 @@ use std::io;
 use std::io::{Read, Write};
 
 /// How many calls of the system have failed, how many bytes its reads have given, and how many files it was to open.
-#[derive(Clone, Copy, Debug)]
+#[derive(Clone, Copy)]
 pub(crate) struct Tally {
     /// The calls that failed, which count no further than 2^64 - 1.
     pub faults: u64,

@@ -13,7 +13,7 @@ use ncl_gates::Kind;
 pub(crate) const MOST_INNER: usize = 3;
 
 /// What is on an input pin of a gate of a form: rail 0 or rail 1 of the input at a place, or the inner gate at a place.
-#[derive(Clone, Copy, Debug, PartialEq, Eq)]
+#[derive(Clone, Copy, PartialEq, Eq)]
 pub(crate) enum FormPin {
     Zero(usize),
     One(usize),
@@ -21,7 +21,7 @@ pub(crate) enum FormPin {
 }
 
 /// A gate of a form.
-#[derive(Clone, Debug, Drop)]
+#[derive(Clone, Drop)]
 pub(crate) struct FormGate {
     pub kind: Kind,
     pub pins: ArrayVec<FormPin, 4>,
@@ -29,7 +29,7 @@ pub(crate) struct FormGate {
 
 /// The gates of a node: inner gates, each of which may read those before it, and those of its two rails; and for which
 /// inputs they wait, word by word.
-#[derive(Clone, Debug, Drop)]
+#[derive(Clone, Drop)]
 pub(crate) struct Form {
     pub inner: ArrayVec<FormGate, MOST_INNER>,
     pub zero: FormGate,

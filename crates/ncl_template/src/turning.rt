@@ -13,7 +13,7 @@ const BITS: [u32; 4] = [1, 2, 4, 8];
 
 /// A table with its inputs in some order and some of them inverted, and what stands then at each place for 1; or that
 /// of the inverse function, and then rails are exchanged.
-#[derive(Clone, Copy, Debug, Default)]
+#[derive(Clone, Copy, Default)]
 pub(crate) struct Turn {
     table: u16,
     ones: [FormPin; 4],

@@ -8,7 +8,7 @@ ghost use Rattle.ncl_blif.specs.Commands.{field_of};
 use crate::line::Line;
 
 /// A command that is read.
-#[derive(Clone, Copy, PartialEq, Eq)]
+#[derive(Clone, Copy)]
 pub(crate) enum Command {
     /// `.model` begins a model.
     Model,

@@ -15,7 +15,7 @@ use ncl_plans::{
 use std::alloc::Global;
 
 /// How the nodes are looked at.
-#[derive(Clone, Copy, PartialEq, Eq)]
+#[derive(Clone, Copy)]
 enum Look {
     /// Each alone.
     Alone,

@@ -13,7 +13,7 @@ const MOST_FOUND: usize = 200;
 pub(crate) const NONE: u32 = u32::MAX;
 
 /// At most four sources by their numbers, the least first: inputs by their places, and then nodes.
-#[derive(Clone, Copy, PartialEq, Eq)]
+#[derive(Clone, Copy)]
 pub(crate) struct Cut {
     pub codes: [u32; 4],
 }

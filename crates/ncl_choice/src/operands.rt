@@ -28,7 +28,7 @@ pub(crate) enum OperandSource {
 }
 
 /// A leaf or a small node, its table over the leaves, and how late it comes.
-#[derive(Clone, Copy, PartialEq, Eq)]
+#[derive(Clone, Copy)]
 pub(crate) struct Operand {
     pub from: OperandSource,
     pub table: u16,

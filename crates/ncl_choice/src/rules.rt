@@ -5,7 +5,7 @@ use ncl_plans::Way;
 use std::alloc::Global;
 
 /// How a function is made of small nodes, of which the inputs go by their numbers.
-#[derive(Clone, Copy, PartialEq, Eq)]
+#[derive(Clone, Copy)]
 pub(crate) enum Rule {
     /// It depends on at most two inputs.
     Short,
@@ -26,7 +26,7 @@ pub(crate) enum Rule {
 }
 
 /// A rule, and how many cells it costs.
-#[derive(Clone, Copy, PartialEq, Eq)]
+#[derive(Clone, Copy)]
 pub(crate) struct Priced {
     pub rule: Rule,
     pub cells: u32,

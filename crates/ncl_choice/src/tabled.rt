@@ -12,7 +12,7 @@ const MOST_LIKE: usize = 32;
 
 /// A small node as a function of the sources of a cut: bit w of its table is its bit at the word w, and bit k of w is the source with
 /// the number k there.
-#[derive(Clone, Copy, PartialEq, Eq)]
+#[derive(Clone, Copy)]
 pub(crate) struct Tabled {
     pub place: u32,
     pub table: u16,

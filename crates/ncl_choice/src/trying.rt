@@ -7,14 +7,14 @@ use ncl_plans::{Arg, Form, Op, Plan, Pool, Step, Way, and, choose, differ, major
 use std::alloc::Global;
 
 /// A signal, if it is there, and the gates on the longest way to it.
-#[derive(Clone, Copy, PartialEq, Eq)]
+#[derive(Clone, Copy)]
 pub(crate) struct Reached {
     pub signal: Option<Signal>,
     pub level: u32,
 }
 
 /// What a plan would add: so many cells, and so many gates on the longest way to what it computes.
-#[derive(Clone, Copy, PartialEq, Eq)]
+#[derive(Clone, Copy)]
 pub(crate) struct Trial {
     pub cells: usize,
     pub level: u32,
@@ -60,7 +60,7 @@ fn step_form(signals: &[Reached], step: &Step) -> Option<Form> {
 
 /// What a step comes to, and whether its small node is to be counted: it isn't there, or is among those that nothing
 /// would read.
-#[derive(Clone, Copy, PartialEq, Eq)]
+#[derive(Clone, Copy)]
 struct Counted {
     signal: Option<Signal>,
     is_added: bool,

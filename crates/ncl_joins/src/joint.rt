@@ -69,7 +69,7 @@ impl Sources {
 }
 
 /// How a function changes where an input rises.
-#[derive(Clone, Copy, Debug, PartialEq, Eq)]
+#[derive(Clone, Copy, Debug)]
 enum Way {
     Stays,
     Rises,

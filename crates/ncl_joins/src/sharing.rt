@@ -65,7 +65,7 @@ const NO_PLACE: usize = 31;
 
 /// When a node waits for a source, by the number that has the bits of some sources: the places of those that it reads, which of them
 /// are inverted, and at which of its words it waits.
-#[derive(Clone, Copy, Default, PartialEq, Eq)]
+#[derive(Clone, Copy, Default)]
 struct Rule {
     places: [usize; 4],
     turned: u32,

@@ -8,7 +8,7 @@ use ncl_network::{Network, Node, SignalSource};
 use std::alloc::Global;
 
 /// A source with its table.
-#[derive(Clone, Copy, PartialEq, Eq)]
+#[derive(Clone, Copy)]
 struct Tabled {
     from: SignalSource,
     table: u16,

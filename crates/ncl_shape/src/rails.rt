@@ -10,7 +10,7 @@ pub struct Rails {
 }
 
 /// A side of the register cells of a bank.
-#[derive(Clone, Copy, PartialEq, Eq)]
+#[derive(Clone, Copy)]
 pub(crate) enum Side {
     /// The nets that they drive.
     Driven,

@@ -13,7 +13,7 @@ use ncl_gates::Kind;
 pub(crate) const MOST_INNER: usize = 3;
 
 /// What is on an input pin of a gate of a form: rail 0 or rail 1 of the input at a place, or the inner gate at a place.
-#[derive(Clone, Copy, PartialEq, Eq)]
+#[derive(Clone, Copy)]
 pub(crate) enum FormPin {
     Zero(usize),
     One(usize),

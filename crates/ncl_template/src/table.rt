@@ -7,7 +7,7 @@ use arrayvec::ArrayVec;
 use ncl_network::{Node, cover_bit};
 
 /// The values of a function of two bits at 00, 01, 10 and 11.
-#[derive(Clone, Copy, PartialEq, Eq)]
+#[derive(Clone, Copy)]
 pub(crate) struct TableRow {
     pub at_00: bool,
     pub at_01: bool,
@@ -16,7 +16,7 @@ pub(crate) struct TableRow {
 }
 
 /// The values of a function of three bits: where the first is 0, and where it is 1.
-#[derive(Clone, Copy, PartialEq, Eq)]
+#[derive(Clone, Copy)]
 pub(crate) struct Table {
     pub low: TableRow,
     pub high: TableRow,

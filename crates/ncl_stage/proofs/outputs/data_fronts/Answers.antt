@@ -1,4 +1,4 @@
-use Rattle.ncl_stage.proofs.Terms.{All, Bool, Err, IsLive, IsSpace, List, MakesAll, Making, Option, Ref, Some, SpaceData, [], ap, arith, conjunction, front_tables, get_or, get_or-map, handed_on, length, length-map, making-next, making-none, map, option_map, subst, sym, take, take_all, too_much-next, ℕ, ◌+◌, ◌<◌, ◌^◌, ◌∙◌, ◌≡◌, ◌≤◌}
+use Rattle.ncl_stage.proofs.Terms.{All, Bool, Err, IsLive, IsSpace, List, MakesAll, Making, Option, Ref, Some, SpaceData, [], ap, arith, conjunction, front_tables, get_or, get_or-map, handed_on, keeps_along, length, length-map, making-next, making-none, map, option_map, subst, sym, take, take_all, too_much-next, ℕ, ◌+◌, ◌<◌, ◌^◌, ◌∙◌, ◌≡◌, ◌≤◌}
 use Rattle.ncl_stage.proofs.OutputLaws.{IsLast, last-live, last-table, conjunction-at, length-front_tables}
 use Rattle.ncl_stage.proofs.outputs.data_fronts.Goals as goal
 
@@ -61,3 +61,11 @@ returns-clause-made g c =
     subst (MakesAll old (g.P.Space.meaning c.loop-next.space) c.loop-next.made.items)
     (take_all c.loop-next.next-index (front_tables old.width ts) (subst (λ n. n ≤ c.loop-next.next-index) (sym many) c.loop-next-test.false))
     c.loop-next.invariant.making.all
+
+pub conjoin-requires-clause-next : goal.conjoin-requires-clause-next
+conjoin-requires-clause-next g c =
+    c.loop-next.invariant.making.kept.live _ (c.requires c.loop-next.next-index (record { place = 0 }) c.loop-next-test.true)
+
+pub returns-in_err-push-clause-kept : goal.returns-in_err-push-clause-kept
+returns-in_err-push-clause-kept g c =
+    keeps_along (g.P.Space.meaning c.args.space.now) (g.P.Space.meaning c.loop-next.space) (g.P.Space.meaning c.conjoin.new.space) c.loop-next.invariant.making.kept c.in_ok-front.ensures.kept

@@ -1,4 +1,4 @@
-use Rattle.ncl_stage.proofs.Terms.{AreValues, AreWaiting, Base, Bool, Contains, Err, IsStage, IsTrue, IsUnchanged, Keeps, List, Makes, MakesAll, Making, MarksChanges, Ref, SpaceData, StageData, ValuesData, Variant, WiringData, [], ap, arith, drop, false, from_test, get_or, get_or-replicate, handed_on, have-length, keeps_along, length, length-append, length-map, length-replicate, length-take-le, making-next, making-none, net_at, net_table_by, net_tables_by, nets_of, not, pin_places, refl, replicate, rules, subst, sym, take, take_all, too_much-next, true, ℕ, ◌++◌, ◌+◌, ◌-◌, ◌<◌, ◌↔◌, ◌∙◌, ◌∷◌, ◌≡◌, ◌≤◌}
+use Rattle.ncl_stage.proofs.Terms.{AreValues, AreWaiting, Base, Bool, Contains, Err, IsLive, IsStage, IsTrue, IsUnchanged, Keeps, List, Makes, MakesAll, Making, MarksChanges, Ref, SpaceData, StageData, ValuesData, Variant, WiringData, [], ap, arith, drop, false, from_test, get_or, get_or-replicate, handed_on, have-length, keeps_along, length, length-append, length-map, length-replicate, length-take-le, making-next, making-none, net_at, net_table_by, net_tables_by, nets_of, not, pin_places, refl, replicate, rules, subst, sym, take, take_all, too_much-next, true, ℕ, ◌++◌, ◌+◌, ◌-◌, ◌<◌, ◌↔◌, ◌∙◌, ◌∷◌, ◌≡◌, ◌≤◌}
 use Rattle.ncl_stage.proofs.ChangedLaws.{marks-more, marks-none, nets-length, table-at, value-at, values-kept}
 use Rattle.ncl_stage.proofs.Unvisited.{making-along, marks-along}
 use Rattle.ncl_stage.proofs.Waiting.{between, waiting-next}
@@ -179,3 +179,45 @@ returns-clause-made g c =
     c.in_ok-pass-2.ensures.refs ∙ (λ i. c.loop-place.changes.refs.items ++ take (long i - from) (drop from (c.refs-all.ensures.refs i))) in
     subst (λ items. MakesAll old now items (net_tables_by w.order s variant)) (sym whole)
     (subst (MakesAll old now (c.loop-place.changes.refs.items ++ take (length w.nets - from) (drop from c.args.base.now.refs))) (take_all (length w.nets) (net_tables_by w.order s variant) (omega (arith, all))) rest.0.all)
+
+pub returns-in_err-made-clause-kept : goal.returns-in_err-made-clause-kept
+returns-in_err-made-clause-kept g c =
+    keeps_along (g.P.Space.meaning c.args.space.now) (g.P.Space.meaning c.loop-place.space) (g.P.Space.meaning c.ref_from.new.space) c.loop-place.invariant.making.kept c.in_err-made.ensures.kept
+
+pub returns-in_err-push-clause-kept : goal.returns-in_err-push-clause-kept
+returns-in_err-push-clause-kept g c =
+    keeps_along (g.P.Space.meaning c.args.space.now) (g.P.Space.meaning c.loop-place.space) (g.P.Space.meaning c.ref_from.new.space) c.loop-place.invariant.making.kept c.in_ok-made.ensures.kept
+
+pub bounds-all-place : goal.bounds-all-place
+bounds-all-place g c =
+    let found = first c.loop-place.changes.waiting.items c.as_slice.result.now c.len.result (length c.loop-place.changes.refs.items) c.in-Some.place c.as_slice.ensures.value (omega (arith, c.len.ensures)) c.in-Some.ensures in
+    let long : length c.refs-all.result.now ≡ length c.args.base.now.wiring.nets = ap length c.refs-all.ensures.refs ∙ c.refs-all.ensures.many in
+    omega (arith, found.1, c.loop-place.invariant.waiting.many, long)
+
+pub same-is_same-requires-clause-x : goal.same-is_same-requires-clause-x
+same-is_same-requires-clause-x g c = c.in_ok-made.ensures.made.live
+
+pub same-is_same-requires-clause-y : goal.same-is_same-requires-clause-y
+same-is_same-requires-clause-y g c =
+    let s : StageData = c.args.stage.now in
+    let none : Ref = record { place = 0 } in
+    let old : SpaceData = g.P.Space.meaning c.args.space.now in
+    let now : SpaceData = g.P.Space.meaning c.loop-place.space in
+    let new : SpaceData = g.P.Space.meaning c.ref_from.new.space in
+    let inv = c.loop-place.invariant in
+    let found = first c.loop-place.changes.waiting.items c.as_slice.result.now c.len.result (length c.loop-place.changes.refs.items) c.in-Some.place c.as_slice.ensures.value (omega (arith, c.len.ensures)) c.in-Some.ensures in
+    let nets = ap length c.requires.base.wired.nets in
+    let within : c.in-Some.place < length (nets_of s.inputs s.cells) = omega (arith, found.1, inv.waiting.many, nets) in
+    let kept = values-kept old new s Base c.args.base.now (keeps_along old now new inv.making.kept c.in_ok-made.ensures.kept) c.requires.base in
+    subst (λ (rs : List Ref). IsLive new (get_or rs c.in-Some.place none)) (sym c.refs-all.ensures.refs) (value-at new s Base c.args.base.now kept c.in-Some.place none within).0
+
+pub readers-requires : goal.readers-requires
+readers-requires g c =
+    let found = first c.loop-place.changes.waiting.items c.as_slice.result.now c.len.result (length c.loop-place.changes.refs.items) c.in-Some.place c.as_slice.ensures.value (omega (arith, c.len.ensures)) c.in-Some.ensures in
+    subst (λ (x : WiringData). c.in-Some.place < length x.nets) (sym c.wiring.ensures) (omega (arith, found.1, c.loop-place.invariant.waiting.many))
+
+pub push-requires : goal.push-requires
+push-requires g c = λ k d lt.
+    let within : get_or c.readers.result.now k d < length c.args.base.now.wiring.nets =
+    subst (λ (x : WiringData). get_or c.readers.result.now k d < length x.nets) c.wiring.ensures (c.readers.ensures.within k d lt) in
+    omega (arith, within, c.loop-place.invariant.waiting.many, ap length c.in_ok-pass.ensures.waiting)

@@ -1,4 +1,4 @@
-use Rattle.ncl_stage.proofs.Terms.{Bool, Err, List, MakesAll, Making, SpaceData, StageData, Variant, [], ap, handed_on, length, length-map, making-next, making-none, net_at, net_table_by, net_tables_by, nets_of, subst, sym, take, take_all, too_much-next, ℕ, ◌+◌, ◌<◌, ◌∙◌, ◌≡◌, ◌≤◌}
+use Rattle.ncl_stage.proofs.Terms.{Bool, Err, List, MakesAll, Making, SpaceData, StageData, Variant, [], ap, handed_on, keeps_along, length, length-map, making-next, making-none, net_at, net_table_by, net_tables_by, nets_of, subst, sym, take, take_all, too_much-next, ℕ, ◌+◌, ◌<◌, ◌∙◌, ◌≡◌, ◌≤◌}
 use Rattle.ncl_stage.proofs.ChangedLaws.{table-at}
 use Rattle.ncl_stage.proofs.nets.net_refs.Goals as goal
 
@@ -45,3 +45,14 @@ returns-clause-made g c =
     let tables : List (List Bool) = net_tables_by c.args.wiring.now.order c.args.stage.now c.args.variant in
     let past : length tables ≤ c.loop-place.place = subst (λ n. n ≤ c.loop-place.place) (c.len-place-end.ensures ∙ as_many c.args.stage.now c.args.wiring.now.order c.args.variant c.args.wiring.now.nets c.requires.wiring.nets) c.loop-place-test.false in
     subst (MakesAll (g.P.Space.meaning c.args.space.now) (g.P.Space.meaning c.loop-place.space) c.loop-place.refs.items) (take_all c.loop-place.place tables past) c.loop-place.invariant.all
+
+pub net_ref-requires-clause-width : goal.net_ref-requires-clause-width
+net_ref-requires-clause-width g c = c.loop-place.invariant.kept.width ∙ c.requires.width
+
+pub returns-in_err-made-clause-kept : goal.returns-in_err-made-clause-kept
+returns-in_err-made-clause-kept g c =
+    keeps_along (g.P.Space.meaning c.args.space.now) (g.P.Space.meaning c.loop-place.space) (g.P.Space.meaning c.net_ref.new.space) c.loop-place.invariant.kept c.in_err-made.ensures.kept
+
+pub returns-in_err-push-clause-kept : goal.returns-in_err-push-clause-kept
+returns-in_err-push-clause-kept g c =
+    keeps_along (g.P.Space.meaning c.args.space.now) (g.P.Space.meaning c.loop-place.space) (g.P.Space.meaning c.net_ref.new.space) c.loop-place.invariant.kept c.in_ok-made.ensures.kept

@@ -1,4 +1,4 @@
-use Rattle.ncl_stage.proofs.Terms.{Base, IfOk-weaker, IsLeft, List, SpaceData, StageCell, StageData, Th12, [], ap, arith, gate, have-length, length, length-map, low_table_by, low_tables_by, net_at, nets_of, subst, sym, ℕ, ◌*◌, ◌+◌, ◌-◌, ◌<◌, ◌∙◌, ◌≡◌}
+use Rattle.ncl_stage.proofs.Terms.{All, Base, IfOk-weaker, IsLeft, IsLive, List, Ref, SpaceData, StageCell, StageData, Th12, [], ap, arith, gate, have-length, keeps_along, length, length-map, low_table_by, low_tables_by, net_at, nets_of, subst, suc, sym, zero, ℕ, ◌*◌, ◌+◌, ◌-◌, ◌<◌, ◌∙◌, ◌∷◌, ◌≡◌}
 use Rattle.ncl_stage.proofs.ChangedLaws.{nets-length, values-width}
 use Rattle.ncl_stage.proofs.ObservingLaws.{left-by}
 use Rattle.ncl_stage.proofs.observing.left_by.Goals as goal
@@ -28,3 +28,22 @@ returns-clause-left g c =
     (left-by s order c.requires.base.wired.order old mid c.in_ok-fallen.ensures.kept (c.in_ok-fallen.ensures.kept.width ∙ values-width old s Base c.args.base.now c.facts-2.ensures c.facts.ensures c.requires.base)
     c.args.place cell c.args.reader within place c.requires.reader c.args.lows.now c.requires.lows named d (record { place = 0 }) c.args.left c.in_ok-fallen.fallen c.requires.live c.requires.left (c.in_ok-fallen.ensures.table d)))
     c.apply.ensures.made
+
+three : (s : SpaceData) (p q r : Ref) → IsLive s p → IsLive s q → IsLive s r → All (IsLive s) (p ∷ q ∷ r ∷ [])
+three s p q r first second third zero d lt = first
+three s p q r first second third (suc zero) d lt = second
+three s p q r first second third (suc (suc zero)) d lt = third
+three s p q r first second third (suc (suc (suc k))) d lt = absurd (omega arith)
+
+pub apply-requires-clause-live : goal.apply-requires-clause-live
+apply-requires-clause-live g c =
+    let s : StageData = c.args.stage.now in
+    let old : SpaceData = g.P.Space.meaning c.args.space.now in
+    let kept = c.in_ok-fallen.ensures.kept in
+    let lows = have-length old c.args.lows.now (low_tables_by c.args.base.now.wiring.order s) c.requires.lows ∙ length-map (nets_of s.inputs s.cells) (low_table_by c.args.base.now.wiring.order s) in
+    let named : c.args.reader < length c.args.lows.now = omega (arith, lows, c.requires.reader) in
+    three (g.P.Space.meaning c.without.new.space) _ _ _ (kept.live _ c.requires.live) (kept.live _ (c.requires.lows.live c.args.reader (record { place = 0 }) named)) c.in_ok-fallen.ensures.live
+
+pub returns-clause-kept : goal.returns-clause-kept
+returns-clause-kept g c =
+    keeps_along (g.P.Space.meaning c.args.space.now) (g.P.Space.meaning c.without.new.space) (g.P.Space.meaning c.apply.new.self) c.in_ok-fallen.ensures.kept c.apply.ensures.kept

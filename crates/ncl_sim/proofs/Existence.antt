@@ -1,5 +1,5 @@
 -- A timed run is there, and where it is stopped.
-use Rattle.ncl_sim.proofs.Terms.{Bool, DelaysData, End, Ends, Fire, Fired, GoesOn, Hazard, IsLost, IsNext, IsQuiet, IsRunFrom, IsStopped, IsTimedRun, Item, List, LosesNone, Lower, Nets, None, Option, Over, Pair, PipelineData, Quiet, Raise, Ready, Run, Some, State, Take, Taken, TraceData, [], after, after_lower, and_from, and_parts, ap, arith, both_ways, candidate, cases_eq, cases_lt, cond, current_rails, due_after, due_at, enabled, eqb, eqb-false, false, false_from_ne_true, if◌then◌else◌, inl, inr, is_take, item_number, items_in, last_time, length, length-append, length-map, list_all, lost, map, most_steps, ne_eqb, none-some, not, not-true, not_from_false, number_count, over, put_at, quiet, refl, reset, same_Some, same_from_push, slice_get, state_after, step, subst, suc, sym, takes_in, true, zero, ℕ, ◌&&◌, ◌++◌, ◌+◌, ◌<◌, ◌∙◌, ◌∷◌, ◌≡◌, ◌≤◌, ◌⊎◌}
+use Rattle.ncl_sim.proofs.Terms.{Bool, DelaysData, End, Ends, Fire, Fired, GoesOn, Hazard, IsLost, IsNext, IsQuiet, IsRunFrom, IsStopped, IsTimedRun, Item, List, LosesNone, Lower, Nets, None, Option, Over, Pair, PipelineData, Quiet, Raise, Ready, Run, Some, State, Take, Taken, TraceData, [], after, after_lower, and_from, and_parts, ap, arith, both_ways, candidate, cases_eq, cases_lt, cond, current_rails, due_after, due_at, enabled, eqb, eqb-false, false, false_from_ne_true, if◌then◌else◌, inl, inr, is_take, item_number, items_in, last_time, length, length-append, length-map, list_all, lost, map, most_steps, ne_eqb, none-some, not, not-true, not_from_false, number_count, over, put_at, quiet, refl, reset, same_Some, same_from_push, slice_get, state_after, step, subst, suc, sym, takes_in, true, zero, ℕ, ◌&&◌, ◌++◌, ◌+◌, ◌<◌, ◌∙◌, ◌∷◌, ◌≡◌, ◌≤◌, ◌⊎◌, Tells}
 pub use Rattle.ncl_sim.proofs.Oneness.{candidate-number, candidate_of, enabled_from_due, nothing_apart, number_within, one_run, some_after}
 
 -- ---- the least of finitely many dues: by the due, and of one due by the number
@@ -296,22 +296,23 @@ some_run p d offered =
 -- ---- what a run that has stopped says of its steps and of what was delivered
 
 -- as many pairs were delivered as words were taken
-pub stopped-takes : (p : PipelineData) (d : DelaysData) (r : Run) (end : End) → IsStopped p d r end → (steps : List Fired) (pairs : List Pair) → steps ≡ r.steps.items → pairs ≡ r.state.delivered → length (takes_in steps) ≡ length pairs
-stopped-takes p d r end is steps pairs same lent =
+pub stopped-takes : (p : PipelineData) (d : DelaysData) (r : Run) (end : End) → IsStopped p d r end → length (takes_in r.steps.items) ≡ length r.state.delivered
+stopped-takes p d r end is =
     let here : length r.state.delivered ≡ length (state_after p r.state.offered r.steps.items).delivered = ap (λ (s : State). length s.delivered) is.state in
     let counted = delivered_by_steps p (reset p r.state.offered) r.steps.items in
-    ap (λ l. length (takes_in l)) same ∙ sym (here ∙ counted ∙ omega arith) ∙ ap length (sym lent)
+    sym (here ∙ counted ∙ omega arith)
 
--- the steps, with the pairs and the times at which they were taken, are the timed run
-pub stopped-run : (p : PipelineData) (d : DelaysData) (r : Run) (end : End) (words : List (List Bool)) (steps lent : List Fired) (pairs : List Pair) (taken : List Taken) → IsStopped p d r end → r.state.offered ≡ words → steps ≡ r.steps.items → lent ≡ r.steps.items → pairs ≡ r.state.delivered → map (λ (x : Taken). x.time) taken ≡ map (λ (f : Fired). f.time) (takes_in lent) → map (λ (x : Taken). x.pair) taken ≡ pairs → IsTimedRun p d words (record { steps = steps; delivered = taken; end = end })
-stopped-run p d r end words steps lent pairs taken is offered same same' given times told =
-    subst (λ (ws : List (List Bool)). IsTimedRun p d ws (record { steps = steps; delivered = taken; end = end })) offered
-    (subst (λ (l : List Fired). IsTimedRun p d r.state.offered (record { steps = l; delivered = taken; end = end })) (sym same)
+-- a trace that tells of it is the timed run
+pub stopped-run : (p : PipelineData) (d : DelaysData) (r : Run) (end : End) (words : List (List Bool)) (t : TraceData) → IsStopped p d r end → r.state.offered ≡ words → Tells r end t → IsTimedRun p d words t
+stopped-run p d r end words t is offered told =
+    subst (λ (ws : List (List Bool)). IsTimedRun p d ws t) offered
+    (subst (λ (e : End). IsTimedRun p d r.state.offered (record { steps = t.steps; delivered = t.delivered; end = e })) (sym told.end)
+    (subst (λ (l : List Fired). IsTimedRun p d r.state.offered (record { steps = l; delivered = t.delivered; end = end })) (sym told.steps)
     (record {
       run = is.goes_on.run;
       next = is.goes_on.next;
       goes_on = is.goes_on.goes_on;
       ends = is.ends;
-      times = times ∙ ap (λ l. map (λ (f : Fired). f.time) (takes_in l)) same';
-      pairs = told ∙ given ∙ ap (λ (s : State). s.delivered) is.state;
-    }))
+      times = told.times;
+      pairs = told.pairs ∙ ap (λ (s : State). s.delivered) is.state;
+    })))

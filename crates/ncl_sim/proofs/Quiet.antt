@@ -1,5 +1,5 @@
 -- How a run ends, and what it has delivered.
-pub use Rattle.ncl_sim.proofs.Terms.{All, AreWordsOf, Bool, CourseData, DelaysData, DeliversAll, End, Ends, Fire, Fired, IsAtRest, IsLost, IsNext, IsPersistent, IsQuiet, IsRun, IsRunFrom, IsSound, IsStopped, IsTimedRun, Item, List, Lower, NetlistData, Pair, PipelineData, Quiet, Raise, Ready, Run, Shape, State, Take, Taken, TraceData, [], after, ap, arith, both_ways, cond, enabled, false, get_or, is_take, item_number, items_in, length, length-append, length-map, lost, map, map-append, most_steps, option_map, over, quiet, refl, reset, rests_where_quiet, run_bound, safe, slice_get, slice_get-map, state_after, step, subst, suc, sym, take, take_more, takes_in, true, words_due, zero, ℕ, ◌*◌, ◌++◌, ◌+◌, ◌<◌, ◌∙◌, ◌∷◌, ◌≡◌, ◌≤◌}
+pub use Rattle.ncl_sim.proofs.Terms.{All, AreWordsOf, Bool, CourseData, DelaysData, DeliversAll, End, Ends, Fire, Fired, IsAtRest, IsLost, IsNext, IsPersistent, IsQuiet, IsRun, IsRunFrom, IsSound, IsStopped, IsTimedRun, Item, List, Lower, NetlistData, Pair, PipelineData, Quiet, Raise, Ready, Run, Shape, State, Take, Taken, TraceData, [], after, ap, arith, both_ways, cond, enabled, false, get_or, is_take, item_number, items_in, length, length-append, length-map, lost, map, map-append, most_steps, option_map, over, quiet, refl, reset, rests_where_quiet, run_bound, safe, slice_get, slice_get-map, state_after, step, subst, suc, sym, take, take_more, takes_in, true, words_due, zero, ℕ, ◌*◌, ◌++◌, ◌+◌, ◌<◌, ◌∙◌, ◌∷◌, ◌≡◌, ◌≤◌, Tells, IfOk-weaker}
 pub use Rattle.ncl_sim.proofs.Existence.{enabled_from_due, run-more, stopped-run, stopped-takes}
 use Rattle.ncl_sim.proofs.Looks.{state-more}
 pub use Rattle.ncl_sim.proofs.WordsDue.{due-length, few_due, few_steps}

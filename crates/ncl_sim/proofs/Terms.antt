@@ -8,7 +8,7 @@ pub use Rattle.std.proofs.lemmas.List.Elements.{All-append, All-cons, All-contai
 pub use Rattle.std.proofs.lemmas.List.Sorted.{All-permutation, IsPermutation-append_comm, IsPermutation-append_left, IsPermutation-append_right, IsPermutation-cons, IsPermutation-map, IsPermutation-middle, IsPermutation-refl, IsPermutation-sym, IsPermutation-trans, length_permutation, sorted_far, sum_by-IsPermutation}
 pub use Rattle.std.proofs.lemmas.List.Sums.{sum_by-append, sum_by-cons}
 pub use Rattle.std.proofs.lemmas.Option.{get_or_from_slice_get, none-some, same_Some, slice_get-get_or, slice_get-map, slice_get_read, slice_get_within}
-pub use Rattle.std.proofs.lemmas.Result.{MatchResult-from_err}
+pub use Rattle.std.proofs.lemmas.Result.{IfOk-weaker, MatchResult-from_err}
 pub use Rattle.std.specs.BinaryHeap.{IsUpperBound, heap_items}
 pub use Rattle.std.specs.Cmp.{IsStrictWeakOrder}
 pub use Rattle.std.specs.List.{AllByRecursion, flat_map, list_all, sum_by}
@@ -76,7 +76,7 @@ pub use Rattle.ncl_sim.specs.Course.{CourseData}
 pub use Rattle.ncl_sim.specs.Numbers.{item_number, output_is_low, rises}
 pub use Rattle.ncl_sim.specs.Queue.{IsBefore, IsFirst, IsTracked, NoneWaits, begins, due_now, is_waiting, least_of, look_at, looks, loses, lower, note}
 pub use Rattle.ncl_sim.specs.Rows.{AreRowsOf, HasNetsBelow, IsDelayAt, IsDelayOfRow, IsRowOf, is_excited_by_row, next_by_row, pin_or_output}
-pub use Rattle.ncl_sim.specs.Running.{GoesOn, HasTouched, IsPopped, IsStopped, IsUnderWay, Turned}
+pub use Rattle.ncl_sim.specs.Running.{GoesOn, HasTouched, IsPopped, IsStopped, IsUnderWay, Tells, Turned}
 pub use Rattle.ncl_sim.specs.TimedRun.{ComesFirst, DeliversAll, Ends, IsLost, IsNext, IsTimedRun, LosesNone, TraceData, due_after, due_along, due_from, due_next, due_step, is_take, items_in, last_time, lost, most_steps, over, quiet, state_after, takes_in, words_due}
 pub use Rattle.ncl_sim.specs.Times.{AreWithin, IsTimely}
 pub use Rattle.ncl_sim.specs.Touch.{AreApart, AreDrivenOnce, AreEnds, Avoids, IsApart, IsUntouched}

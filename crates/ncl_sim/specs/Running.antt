@@ -1,5 +1,5 @@
 -- A run under way, and the table of what a step can touch.
-use Rattle.std.specs.Prelude.{◌≡◌, ℕ, ◌+◌, ◌<◌, Bool, List, [], ◌∷◌, ◌++◌, length, Contains, Option, None, Some, set}
+use Rattle.std.specs.Prelude.{◌≡◌, ℕ, ◌+◌, ◌<◌, Bool, List, ◌∷◌, ◌++◌, map, length, Contains, Option, None, Some, set}
 use Rattle.ncl_base.specs.ListTables.{items_at}
 use Rattle.ncl_netlist.specs.declared.cell.Cell.{Cell}
 use Rattle.ncl_netlist.specs.declared.ids.NetId.{NetId}
@@ -10,12 +10,13 @@ use Rattle.ncl_machine.specs.Run.{IsRun}
 use Rattle.ncl_machine.specs.Held.{IsFor, meaning}
 use Rattle.ncl_delay.specs.Delays.{DelaysData}
 use Rattle.ncl_delay.specs.declared.fired.Fired.{Fired}
-use Rattle.ncl_sim.specs.TimedRun.{Ends, IsNext, LosesNone, items_in, state_after}
+use Rattle.ncl_sim.specs.TimedRun.{Ends, IsNext, LosesNone, TraceData, items_in, state_after, takes_in}
 use Rattle.ncl_sim.specs.Candidates.{candidate, number_count}
 use Rattle.ncl_sim.specs.Queue.{IsFirst, IsTracked}
 use Rattle.ncl_sim.specs.declared.run.Run.{Run}
 use Rattle.ncl_sim.specs.declared.trace.End.{End}
 use Rattle.ncl_sim.specs.declared.trace.End.TheVariants.{Hazard}
+use Rattle.ncl_sim.specs.declared.trace.Taken.{Taken}
 
 -- the steps begin a timed run: each is the next, and no step before the last ends it
 pub record GoesOn (p : PipelineData) (d : DelaysData) (offered : List (List Bool)) (steps : List Fired) : Type 0 where
@@ -44,6 +45,13 @@ pub record IsStopped (p : PipelineData) (d : DelaysData) (r : Run) (end : End) :
   pub state : meaning r.state ≡ state_after p r.state.offered r.steps.items
   pub goes_on : GoesOn p d r.state.offered r.steps.items
   pub ends : Ends p r.state.offered r.steps.items end
+
+-- a trace tells the steps of a run that ended so, and what was delivered, each pair with the time of its step
+pub record Tells (r : Run) (last : End) (t : TraceData) : Type 0 where
+  pub steps : t.steps ≡ r.steps.items
+  pub times : map (λ (x : Taken). x.time) t.delivered ≡ map (λ (f : Fired). f.time) (takes_in r.steps.items)
+  pub pairs : map (λ (x : Taken). x.pair) t.delivered ≡ r.state.delivered
+  pub end : t.end ≡ last
 
 -- after a turn at a time the run is under way, or it has ended since a number was lost
 abbrev pub Turned : PipelineData → DelaysData → Run → ℕ → Option ℕ → Type 0

@@ -2,6 +2,7 @@
 ghost use Rattle.std.specs.Prelude.{◌≡◌, ◌≤◌, ◌*◌, All, IfOk, length, map};
 ghost use Rattle.ncl_faults.specs.Faults.{IsSound};
 ghost use Rattle.ncl_machine.specs.Run.{AreWordsOf};
+ghost use Rattle.ncl_sim.specs.Running.{Tells};
 ghost use Rattle.ncl_sim.specs.TimedRun.{DeliversAll, IsTimedRun, takes_in};
 ghost use Rattle.ncl_delay.specs.declared.fired.Fired.{Fired as FiredStep};
 ghost use Rattle.ncl_sim.specs.declared.trace.Taken.{Taken as TakenPair};
@@ -9,7 +10,7 @@ ghost use Rattle.ncl_sim.specs.declared.trace.End.TheVariants.{Quiet};
 
 use crate::course::Course;
 use crate::run::Run;
-use crate::trace::{Taken, Trace};
+use crate::trace::{End, Taken, Trace};
 use ncl_base::{Items, Memory, Word};
 use ncl_delay::{Delays, Fired, MOST_WORDS};
 use ncl_machine::{Item, Pair};
@@ -44,6 +45,24 @@ fn delivered(alloc: Global, steps: &[Fired], pairs: &[Pair]) -> Result<Vec<Taken
     Ok(taken)
 }
 
+/// The trace of a run, with how it ended. Linear in the steps.
+fn trace_of(alloc: Global, run: Run, end: End) -> Result<Trace, Memory>
+    requires { length (takes_in run.steps.items) ≡ length run.state.delivered }
+    ensures { IfOk result (Tells run end) }
+{
+    let taken = delivered(alloc, &run.steps, run.state.delivered())?;
+    let Run {
+        state: _,
+        agenda: _,
+        steps,
+    } = run;
+    Ok(Trace {
+        steps: Items::from_vec(steps),
+        delivered: Items::from_vec(taken),
+        end,
+    })
+}
+
 /// Runs a pipeline over some words, each of the width of the first bank, with delays: each item steps when it has been
 /// enabled for its delay, and of those that are due at one time the one of the least number first.
 ///
@@ -74,15 +93,5 @@ pub fn simulate(
     let due = pipeline.data_banks() + words.len();
     let most = 2 * due as u64 * nets as u64;
     let end = run.finish(&course, most)?;
-    let taken = delivered(alloc, &run.steps, run.state.delivered())?;
-    let Run {
-        state: _,
-        agenda: _,
-        steps,
-    } = run;
-    Ok(Trace {
-        steps: Items::from_vec(steps),
-        delivered: Items::from_vec(taken),
-        end,
-    })
+    trace_of(alloc, run, end)
 }

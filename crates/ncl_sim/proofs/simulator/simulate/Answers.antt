@@ -1,4 +1,4 @@
-use Rattle.ncl_sim.proofs.Quiet.{CourseData, DelaysData, End, IsStopped, PipelineData, Run, Taken, ap, arith, few_due, few_steps, length, map, sound-delivers, sound-ends_quiet, stopped-run, stopped-takes, subst, ◌+◌, ◌∙◌, ◌≡◌}
+use Rattle.ncl_sim.proofs.Quiet.{CourseData, DelaysData, DeliversAll, End, IfOk-weaker, IsStopped, IsTimedRun, PipelineData, Quiet, Run, Tells, ap, arith, few_due, few_steps, length, sound-delivers, sound-ends_quiet, stopped-run, stopped-takes, subst, ◌+◌, ◌∙◌, ◌≡◌}
 use Rattle.ncl_sim.proofs.simulator.simulate.Goals as goal
 
 pub finish-requires-clause-few : goal.finish-requires-clause-few
@@ -21,19 +21,24 @@ stopped_by : (p : PipelineData) (d : DelaysData) (course : CourseData) (r : Run)
 stopped_by p d course r end of_pipeline of_delays stopped =
     subst (λ q. IsStopped q d r end) of_pipeline (subst (λ e. IsStopped course.pipeline e r end) of_delays stopped)
 
-pub delivered-requires-2 : goal.delivered-requires-2
-delivered-requires-2 c =
-    stopped-takes c.args.pipeline.now c.args.delays.now c.finish.new.self c.in_ok-end.end (stopped_by c.args.pipeline.now c.args.delays.now c.in_ok-course.course c.finish.new.self c.in_ok-end.end c.in_ok-course.ensures.pipeline c.in_ok-course.ensures.delays c.in_ok-end.ensures.stopped) _ _ c.deref.ensures.value c.delivered.ensures
+pub trace_of-requires : goal.trace_of-requires
+trace_of-requires c =
+    stopped-takes c.args.pipeline.now c.args.delays.now c.finish.new.self c.in_ok-end.end (stopped_by c.args.pipeline.now c.args.delays.now c.in_ok-course.course c.finish.new.self c.in_ok-end.end c.in_ok-course.ensures.pipeline c.in_ok-course.ensures.delays c.in_ok-end.ensures.stopped)
 
 pub returns-clause-run : goal.returns-clause-run
 returns-clause-run c =
-    stopped-run c.args.pipeline.now c.args.delays.now c.finish.new.self c.in_ok-end.end c.args.words.now _ _ _ _
+    IfOk-weaker c.trace_of.result (Tells c.finish.new.self c.in_ok-end.end) (IsTimedRun c.args.pipeline.now c.args.delays.now c.args.words.now)
+    (λ t. stopped-run c.args.pipeline.now c.args.delays.now c.finish.new.self c.in_ok-end.end c.args.words.now t
     (stopped_by c.args.pipeline.now c.args.delays.now c.in_ok-course.course c.finish.new.self c.in_ok-end.end c.in_ok-course.ensures.pipeline c.in_ok-course.ensures.delays c.in_ok-end.ensures.stopped)
-    (c.in_ok-end.ensures.offered ∙ c.in_ok-run.ensures.offered) c.from_vec.ensures c.deref.ensures.value c.delivered.ensures
-    (ap (map (λ (x : Taken). x.time)) c.from_vec-2.ensures ∙ c.in_ok-taken.ensures.times) (ap (map (λ (x : Taken). x.pair)) c.from_vec-2.ensures ∙ c.in_ok-taken.ensures.pairs)
+    (c.in_ok-end.ensures.offered ∙ c.in_ok-run.ensures.offered))
+    c.trace_of.ensures
 
 pub returns-clause-quiet : goal.returns-clause-quiet
-returns-clause-quiet c = λ sound. sound-ends_quiet _ c.args.pipeline.now c.args.delays.now c.args.words.now _ c.facts.ensures sound c.requires.wide (returns-clause-run c)
+returns-clause-quiet c = λ sound.
+    IfOk-weaker c.trace_of.result (IsTimedRun c.args.pipeline.now c.args.delays.now c.args.words.now) (λ t. t.end ≡ Quiet)
+    (λ t. sound-ends_quiet _ c.args.pipeline.now c.args.delays.now c.args.words.now t c.facts.ensures sound c.requires.wide) (returns-clause-run c)
 
 pub returns-clause-delivered : goal.returns-clause-delivered
-returns-clause-delivered c = λ sound. sound-delivers _ c.args.pipeline.now c.args.delays.now c.args.words.now _ c.facts.ensures sound c.requires.wide (returns-clause-run c)
+returns-clause-delivered c = λ sound.
+    IfOk-weaker c.trace_of.result (IsTimedRun c.args.pipeline.now c.args.delays.now c.args.words.now) (DeliversAll c.args.pipeline.now c.args.words.now)
+    (λ t. sound-delivers _ c.args.pipeline.now c.args.delays.now c.args.words.now t c.facts.ensures sound c.requires.wide) (returns-clause-run c)

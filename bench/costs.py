@@ -8,8 +8,9 @@ between two files is what the later one took. That holds for a check from nothin
 and run `rt check --jobs 1` in crates/CRATE first, with nothing else running. For each crate the first line tells how long all
 functions took together, and how much of it went into functions that took more than 5 seconds each; then comes a line for each
 function that took at least so many seconds (3 without --least): the seconds, of them those of the generated steps, of the
-written answers, and of the rest of the proof. What is above 10 seconds mostly holds many owned values while it calls what may
-fail: give it parts that take references.
+search for goals that have no written answer, of the written answers, and of the rest of the proof. Many steps mostly come of
+many owned values that are held while something is called that may fail: give it parts that take references. A search of more
+than two seconds is for a goal that should have an answer.
 """
 import collections
 import os
@@ -63,8 +64,9 @@ def tell(crate, least):
     print(f"{crate}: {whole:.0f} s, {sum(max(it - MANY, 0) for it in sums.values()):.0f} s of them above {MANY} s a function")
     for name, took in sorted(sums.items(), key=lambda it: -it[1]):
         if took >= least:
-            steps, answers = costs[name]["Lts"], costs[name]["Answers"]
-            print(f"{took:8.1f}  {name}  (steps {steps:.1f}, answers {answers:.1f}, rest {took - steps - answers:.1f})")
+            steps, search, answers = (costs[name][part] for part in ("Lts", "Proof", "Answers"))
+            rest = took - steps - search - answers
+            print(f"{took:8.1f}  {name}  (steps {steps:.1f}, search {search:.1f}, answers {answers:.1f}, rest {rest:.1f})")
 
 
 def main():

@@ -1,4 +1,6 @@
 use Rattle.ncl_sim.proofs.Quiet.{Fire, Taken, ap, arith, get_or, is_take, length, map, no-take, refl, subst, sym, take, taken-before, taken-pairs, taken-stays, taken-times, ◌<◌, ◌∙◌, ◌≡◌}
+use Rattle.ncl_sim.proofs.Terms.{Fired, length-map, takes_in}
+use Rattle.std.proofs.lemmas.List.{take_all}
 use Rattle.ncl_sim.proofs.simulator.delivered.Goals as goal
 use Rattle.ncl_sim.proofs.simulator.delivered.Goals.{in-Take+in_ok-pair+in_ok-push}
 use Rattle.ncl_sim.proofs.simulator.delivered.Goals.{in_default}
@@ -30,3 +32,19 @@ loop-fired-preserved c = elim c.match-fired.branch [
         ap (map (λ (x : Taken). x.pair)) items ∙ c.loop-fired.invariant.1 ∙ ap (λ l. take (length l) c.args.pairs.now) (sym items),
       )
 ]
+
+pub loop-fired-init : goal.loop-fired-init
+loop-fired-init c =
+    let none = c.in_ok-taken.ensures.items in
+    (ap (map (λ (x : Taken). x.time)) none, ap (map (λ (x : Taken). x.pair)) none ∙ ap (λ l. take (length l) c.args.pairs.now) (sym none))
+
+pub returns-clause-times : goal.returns-clause-times
+returns-clause-times c = c.loop-fired.invariant.0 ∙ ap (λ s. map (λ (f : Fired). f.time) (takes_in s)) (take_all c.loop-fired.fired-index c.args.steps.now (omega (arith, c.loop-fired-test.false)))
+
+pub returns-clause-pairs : goal.returns-clause-pairs
+returns-clause-pairs c =
+    let taken = c.loop-fired.taken.items in
+    let times = ap length (returns-clause-times c) in
+    let many = length-map taken (λ (x : Taken). x.time) in
+    let as_many = length-map (takes_in c.args.steps.now) (λ (f : Fired). f.time) in
+    c.loop-fired.invariant.1 ∙ take_all (length taken) c.args.pairs.now (omega (arith, times, many, as_many, c.requires))

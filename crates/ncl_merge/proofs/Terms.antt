@@ -111,7 +111,7 @@ pub use Rattle.std.proofs.lemmas.Bool.{and_from, and_parts, both_ways, cases_Boo
 pub use Rattle.std.proofs.lemmas.Bool.Decides.{Decides-eqb}
 pub use Rattle.std.proofs.lemmas.Grind.{flat_map-append}
 pub use Rattle.std.proofs.lemmas.List.FromFn.{get_or-range_with_len, length-range_with_len}
-pub use Rattle.std.proofs.lemmas.List.{append-nil, drop_more, get_or-map, get_or-take, get_or_default, get_or_past, length-drop, length-map, length-take, length_push, map-append, take-append-drop, take_all, take_more}
+pub use Rattle.std.proofs.lemmas.List.{append-nil, drop_more, get_or-map, get_or-take, get_or_default, get_or_past, length-drop, length-map, length-take, length-take-le, length_push, map-append, take-append-drop, take_all, take_more}
 pub use Rattle.std.proofs.lemmas.List.Concat.{flat_map-cons, length-flat_map}
 pub use Rattle.std.proofs.lemmas.List.Elements.{All-contains, filter_agree}
 pub use Rattle.std.proofs.lemmas.List.Folds.{find-append, list_all-map}

@@ -1,7 +1,23 @@
-use Rattle.ncl_reaching.proofs.Terms.{Incomplete, Loses, ap, bit_at, length, meaning, order-of, register_cell, rules, subst, sym, ◌<◌, ◌∙◌}
-use Rattle.ncl_reaching.proofs.BreakingLaws.{Takes, bank-there, bit-of_word, bit-there, cell-takes, takes-there}
+use Rattle.ncl_reaching.proofs.Terms.{Incomplete, Loses, [], ap, bit_at, length, meaning, order-of, register_cell, subst, sym, ◌<◌, ◌∙◌, ◌∷◌}
+use Rattle.ncl_reaching.proofs.BreakingLaws.{Takes, bank-there, before-within, bit-of_word, bit-there, cell-takes, takes-there}
 use Rattle.ncl_reaching.proofs.breaking.bit_run.Goals as goal
 use Rattle.ncl_reaching.proofs.breaking.bit_run.Goals.{After-deref-2}
+
+pub start-requires : goal.start-requires
+start-requires c = c.requires.brought.wide
+
+pub lacking_items-requires-clause-before : goal.lacking_items-requires-clause-before
+lacking_items-requires-clause-before c = before-within c.args.way.now.pipeline.now c.facts.ensures c.args.way.now.before c.args.way.now.input.now (Incomplete c.args.bit) c.requires.brought
+
+pub acknowledging_items-requires-clause-made : goal.acknowledging_items-requires-clause-made
+acknowledging_items-requires-clause-made c = c.in_ok-state.ensures.made
+
+pub acknowledging_items-requires-clause-reset : goal.acknowledging_items-requires-clause-reset
+acknowledging_items-requires-clause-reset c = (c.args.way.now.input.now ∷ [], c.in_ok-state.ensures.reset)
+
+pub acknowledging_items-requires-clause-within : goal.acknowledging_items-requires-clause-within
+acknowledging_items-requires-clause-within c =
+    (order-of c.args.way.now.pipeline.now.netlist c.origins.result.now c.order-order.result.now c.origins.ensures.origins c.order-order.ensures.order).inside
 
 pub lacking_items-requires-clause-bit : goal.lacking_items-requires-clause-bit
 lacking_items-requires-clause-bit c = λ bank at. bit-there c.args.way.now.pipeline.now c.facts.ensures c.args.way.now.before c.args.way.now.input.now c.args.bit c.requires.brought bank at
@@ -31,7 +47,7 @@ takes c =
 pub losing_run-requires : goal.losing_run-requires
 losing_run-requires c =
     let taken = takes (goal.at.losing_run-requires c).After-deref-2 in
-    record { made = search rules; cell = taken.within; coming = taken.coming; going = taken.going; others = taken.others; comes = taken.comes; goes = taken.goes }
+    record { made = c.in_ok-state.ensures.made; cell = taken.within; coming = taken.coming; going = taken.going; others = taken.others; comes = taken.comes; goes = taken.goes }
 
 pub returns : goal.returns
 returns c =

@@ -1,6 +1,18 @@
-use Rattle.ncl_reaching.proofs.Terms.{All, BothRails, InRange, meaning, subst, sym, ◌∙◌}
-use Rattle.ncl_reaching.proofs.BreakingLaws.{happened-so, illegal-breaks, way-tried}
+use Rattle.ncl_reaching.proofs.Terms.{All, BothRails, InRange, arith, meaning, subst, sym, ◌∙◌}
+use Rattle.ncl_reaching.proofs.BreakingLaws.{before-within, happened-so, illegal-breaks, way-tried}
 use Rattle.ncl_reaching.proofs.breaking.illegal_run.Goals as goal
+
+pub start-requires : goal.start-requires
+start-requires c = c.requires.1.wide
+
+pub reaching_items-requires : goal.reaching_items-requires
+reaching_items-requires c =
+    let (output, b) = c.requires in
+    let within = before-within c.args.way.now.pipeline.now c.facts.ensures c.args.way.now.before c.args.way.now.input.now (BothRails output) b in
+    omega (arith, within)
+
+pub try_items-requires-clause-made : goal.try_items-requires-clause-made
+try_items-requires-clause-made c = c.in_ok-state.ensures.made
 
 pub try_items-requires-clause-items : goal.try_items-requires-clause-items
 try_items-requires-clause-items c =

@@ -3,13 +3,13 @@ pub use Rattle.std.proofs.Common.{Bool, Err, List, None, Option, Some, [], ap, a
 pub use Rattle.std.proofs.Math.Path.{fun_ext}
 pub use Rattle.std.proofs.lemmas.Bool.{both_ways, cases_eq, eq-eqb, eqb-true, false_from_ne_true, ne_eqb, or_from}
 pub use Rattle.std.proofs.lemmas.List.{append-nil, drop_more, get_or-map, get_or-set_other, get_or-set_same, length-map, length-replicate, length-take-le, map-append, map_more, take_all, take_more}
-pub use Rattle.std.proofs.lemmas.List.Elements.{All-contains}
+pub use Rattle.std.proofs.lemmas.List.Elements.{All-contains, same_from_all_zip}
 pub use Rattle.std.proofs.lemmas.List.Kept.{AllPairs-cons}
 pub use Rattle.std.proofs.lemmas.Option.{get_or_from_slice_get, slice_get-get_or, slice_get_within}
 pub use Rattle.std.proofs.lemmas.Result.{IfOk-weaker}
 pub use Rattle.std.specs.List.{find, flat_map, list_all, range_with_len}
 pub use Rattle.std.specs.Option.{option_map, option_or}
-pub use Rattle.std.specs.Prelude.{All, AllPairs, Contains, nat_eq, option_and_then, slice_get}
+pub use Rattle.std.specs.Prelude.{All, AllPairs, Contains, IfOk, nat_eq, option_and_then, slice_get}
 pub use Rattle.ncl_base.proofs.Joined.{Member-flat_map, member_of_flat_map}
 pub use Rattle.ncl_base.proofs.Lists.{pairs-head, pairs-tail, same_from_lengths}
 pub use Rattle.ncl_base.proofs.Members.{All-from_members, Contains-from_Member, Contains-from_slice_get, Member, Member-append_cases, Member-append_left, Member-append_right, Member-from_Contains, Member-map, here, member-found, member_cases, member_of_map, slice_get-some, there}

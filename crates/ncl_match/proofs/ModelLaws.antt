@@ -1,5 +1,5 @@
 -- The functions of the signals that count for an output: they are listed, and their tables are held once all are made.
-pub use Rattle.ncl_match.proofs.Terms.{[], All, All-append, All-contains, All-from_members, All-head, All-left, All-member, All-nil, All-right, All-tail, AreHeld, AreInRow, AreModels, AreNeeded, AreNumbered, AreOrdered, Assigns, Bool, Circuit, Contains, Contains-from_slice_get, Cover, Err, Fits, Gathers, HasFunction, HasSignal, HasStep, HaveBits, HaveSignals, HaveSteps, HoldsSignals, IsHeld, IsListed, IsModel, IsSpace, Keeps, List, Lit, Model, None, Option, Overflows, Pair, SignalCounts, Some, SpaceData, Step, WordFunction, ap, arith, bit_at, bit_function, both_tables, by_cover, by_position, cases_lt, computes_one, cover_tables, cut_at, drop, false, false≢true, first_tables, fits, fits_agree, functions_read, gathered, get_or, get_or-take, get_or_default, get_or_past, handed_on, if◌then◌else◌, inverse, is_output, length, length-take, list_any, map, map-agree_on, outputs_of, pair_at, range_with_len, recursion_from_All, refl, row_function, row_matches, row_tables, rows_function, rules, same_Some, signal_function, signals_of, slice_get, slice_get-some, slice_get_within, step_tables, subst, subst₂, suc, sym, table_of, table_of-same, tables_of_step, take, true, turn_tables, values_of, width_of, with_tables, words, zero, ℕ, ⊎_elim, ◌+◌, ◌<◌, ◌∙◌, ◌∷◌, ◌≡◌, ◌≤◌}
+pub use Rattle.ncl_match.proofs.Terms.{[], All, All-append, All-contains, All-from_members, All-head, All-left, All-member, All-nil, All-right, All-tail, AreHeld, AreInRow, AreModels, AreNeeded, AreNumbered, AreOrdered, Assigns, Bool, Circuit, Contains, Contains-from_slice_get, Cover, Err, Fits, Gathers, HasFunction, HasSignal, HasStep, HaveBits, HaveSignals, HaveSteps, HoldsSignals, IsHeld, IsListed, IsModel, IsSpace, Keeps, List, Lit, Model, None, Option, Overflows, Pair, SignalCounts, Some, SpaceData, Step, WordFunction, ap, arith, bit_at, bit_function, both_tables, by_cover, by_position, cases_lt, computes_one, cover_tables, cut_at, drop, false, false≢true, first_tables, fits, fits_agree, functions_read, gathered, get_or, get_or-take, get_or_default, get_or_past, handed_on, if◌then◌else◌, inverse, is_output, keeps_along, length, length-take, list_any, map, map-agree_on, outputs_of, pair_at, range_with_len, recursion_from_All, refl, row_function, row_matches, row_tables, rows_function, rules, same_Some, signal_function, signals_of, slice_get, slice_get-some, slice_get_within, step_tables, subst, subst₂, suc, sym, table_of, table_of-same, tables_of_step, take, true, turn_tables, values_of, width_of, with_tables, words, zero, ℕ, ⊎_elim, ◌+◌, ◌<◌, ◌∙◌, ◌∷◌, ◌≡◌, ◌≤◌}
 pub use Rattle.ncl_match.proofs.StepLaws.{outputs_size, outs_many}
 use Rattle.ncl_match.proofs.NetlistLaws.{both-listed, gathered-all, gathers-more, has-held, made-held, overflows-after, same-function, same-held}
 use Rattle.ncl_match.proofs.SignalLaws.{HasRoot, IsCounted, assigns_at, at_place, bit-function, bits-front, bits-map, bits_of, counted-marked, driven, has_root, input, member-gathered, model_at, needed-counted, number, value_of, values-map}

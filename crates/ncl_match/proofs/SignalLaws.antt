@@ -1,5 +1,5 @@
 -- The pairs of signals, those that count, and their numbers.
-pub use Rattle.ncl_match.proofs.Terms.{[], All, All-cons, All-contains, All-head, All-nil, All-push, All-tail, AreModels, AreNeeded, AreNumbered, AreOrdered, Assigns, Bool, Computes, Contains, Contains-append_cases, Contains-from_slice_get, Cover, Err, Fits, Gives, HasFunction, HasStep, IfOk-weaker, IsModel, IsNeeded, IsNumbered, IsPair, IsSpace, Keeps, List, Lit, MakesPair, Model, None, Option, Pair, SignalCounts, Some, SpaceData, Step, WordFunction, ap, arith, bit_at, bit_function, bits_after, both_tables, by_cover, by_position, cases_eq, common_steps, cover_function, cover_tables, cover_value, eqb-true, false, false≢true, first_tables, fits, function_at, functions_at, functions_read, gathered, get_or, get_or-map, get_or-range_with_len, get_or_append_left, get_or_from_slice_get, get_or_push, handed_on, if◌then◌else◌, is_among, is_output, length, length-map, length_push, list_any, list_any_at, map, map-agree_on, map-range, nat_eq, or_cases, or_left, or_right, pair_at, range_with_len, refl, replicate, row_function, row_matches, row_tables, rows_function, same_Some, signal_function, signals_of, slice_get, slice_get-get_or, slice_get-some, slice_get_read, slice_get_within, step_tables, step_value, subst, suc, sym, tables_of_step, take, true, turn_tables, values_of, width_of, with_none, with_tables, zero, ℕ, ⊎_elim, ◌++◌, ◌+◌, ◌-◌, ◌<◌, ◌||◌, ◌∙◌, ◌∷◌, ◌≡◌}
+pub use Rattle.ncl_match.proofs.Terms.{[], All, All-cons, All-contains, All-head, All-nil, All-push, All-tail, AreModels, AreNeeded, AreNumbered, AreOrdered, Assigns, Bool, Computes, Contains, Contains-append_cases, Contains-from_slice_get, Cover, Err, Fits, Gives, HasFunction, HasStep, IfOk-weaker, IsModel, IsNeeded, IsNumbered, IsPair, IsSpace, Keeps, List, Lit, MakesPair, Model, None, Option, Pair, SignalCounts, Some, SpaceData, Step, WordFunction, ap, arith, bit_at, bit_function, bits_after, both_tables, by_cover, by_position, cases_eq, common_steps, cover_function, cover_tables, cover_value, eqb-true, false, false≢true, first_tables, fits, function_at, functions_at, functions_read, gathered, get_or, get_or-map, get_or-range_with_len, get_or_append_left, get_or_from_slice_get, get_or_push, handed_on, if◌then◌else◌, is_among, keeps_along, is_output, length, length-map, length_push, list_any, list_any_at, map, map-agree_on, map-range, nat_eq, or_cases, or_left, or_right, pair_at, range_with_len, refl, replicate, row_function, row_matches, row_tables, rows_function, same_Some, signal_function, signals_of, slice_get, slice_get-get_or, slice_get-some, slice_get_read, slice_get_within, step_tables, step_value, subst, suc, sym, tables_of_step, take, true, turn_tables, values_of, width_of, with_none, with_tables, zero, ℕ, ⊎_elim, ◌++◌, ◌+◌, ◌-◌, ◌<◌, ◌||◌, ◌∙◌, ◌∷◌, ◌≡◌}
 pub use Rattle.ncl_match.proofs.MarkLaws.{member-before, none_marked, own-number}
 pub use Rattle.ncl_match.proofs.PairLaws.{Turned, function-is, has-kept, pairs-kept, same-function, same-tables, too_much-turn, turned-next, turned-none}
 use Rattle.ncl_match.specs.Needed.{itself, reads}

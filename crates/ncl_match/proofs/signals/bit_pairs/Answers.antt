@@ -1,4 +1,4 @@
-use Rattle.ncl_match.proofs.SignalLaws.{[], All, All-nil, Bool, Err, HasFunction, IsPair, List, Pair, SpaceData, ap, arith, bit-turn, bit_at, bit_function, common_steps, false, first_tables, fits, handed_on, length, length_push, pairs-begin, pairs-more, subst, sym, too_much-turn, true, with_tables, ◌++◌, ◌+◌, ◌∙◌, ◌∷◌, ◌≡◌}
+use Rattle.ncl_match.proofs.SignalLaws.{[], All, All-nil, Bool, Err, HasFunction, IsPair, List, Pair, SpaceData, ap, arith, bit-turn, bit_at, bit_function, common_steps, false, first_tables, fits, handed_on, keeps_along, length, length_push, pairs-begin, pairs-more, subst, sym, too_much-turn, true, with_tables, ◌++◌, ◌+◌, ◌∙◌, ◌∷◌, ◌≡◌}
 use Rattle.ncl_match.proofs.signals.bit_pairs.Goals as goal
 
 pub loop-bit-init : goal.loop-bit-init
@@ -36,3 +36,20 @@ loop-bit-preserved g c =
           (subst (λ k. bit_at marks k ≡ true → HasFunction (g.P.Space.meaning c.bit_pair.new.space) p (bit_function k)) (sym many) c.in_ok-pair.ensures.has)
           (c.in_ok-pair.ensures.held ∙ ap (with_tables now) (bit-turn old now marks c.loop-bit.bit l.turned.kept.width)) c.push.new.self.items more;
     }
+
+pub bit_pair-requires : goal.bit_pair-requires
+bit_pair-requires g c = omega (arith, c.loop-bit.invariant.done.turned.kept.width, c.requires.width, c.loop-bit-test.true)
+
+pub bounds-marks-bit : goal.bounds-marks-bit
+bounds-marks-bit g c = omega (arith, c.requires.marks, c.loop-bit-test.true)
+
+pub returns-in_err-pair-clause-kept : goal.returns-in_err-pair-clause-kept
+returns-in_err-pair-clause-kept g c =
+    keeps_along (g.P.Space.meaning c.args.space.now) (g.P.Space.meaning c.loop-bit.space) (g.P.Space.meaning c.bit_pair.new.space) c.loop-bit.invariant.done.turned.kept c.in_err-pair.ensures.kept
+
+pub returns-in_err-push-clause-kept : goal.returns-in_err-push-clause-kept
+returns-in_err-push-clause-kept g c =
+    keeps_along (g.P.Space.meaning c.args.space.now) (g.P.Space.meaning c.loop-bit.space) (g.P.Space.meaning c.bit_pair.new.space) c.loop-bit.invariant.done.turned.kept c.in_ok-pair.ensures.kept
+
+pub returns-clause-kept : goal.returns-clause-kept
+returns-clause-kept g c = c.loop-bit.invariant.done.turned.kept

@@ -1,4 +1,4 @@
-use Rattle.ncl_match.proofs.ModelLaws.{AreInRow, AreNeeded, Bool, Err, HasSignal, HaveBits, HaveSteps, List, Model, Pair, SpaceData, Step, all-held, ap, arith, bits-overflow, bits-signals, false, first_tables, fits, gathered, get_or, handed_on, length, output-had, output-inside, outputs_size, pair_at, rules, step_tables, steps-gather, steps-overflow, subst, subst₂, sym, width_of, ℕ, ◌∙◌, ◌≡◌}
+use Rattle.ncl_match.proofs.ModelLaws.{AreInRow, AreNeeded, AreOrdered, Bool, Err, HasSignal, HaveBits, HaveSteps, List, Model, Pair, SpaceData, Step, all-held, ap, arith, bits-overflow, bits-signals, false, first_tables, fits, gathered, get_or, handed_on, keeps_along, length, output-had, output-inside, outputs_size, pair_at, rules, step_tables, steps-gather, steps-overflow, subst, subst₂, sym, width_of, ℕ, ◌∙◌, ◌≡◌}
 use Rattle.ncl_match.proofs.signals.models_pair.Goals as goal
 
 -- the row by the models that it is of
@@ -85,6 +85,66 @@ returns g c =
           (output-had models steps outs row c.args.output c.requires.output marks needed circuit wide old c.requires.width mid _ c.in_ok-pairs.ensures.kept bits new pairs c.in_ok-step_pairs.ensures.kept done);
       signals = λ circuit wide. all-held models steps outs row c.args.output c.requires.output marks needed circuit wide old c.requires.width mid _ c.in_ok-pairs.ensures.kept bits new pairs c.in_ok-step_pairs.ensures.kept done;
       gathers = λ circuit wide. steps-gather models steps outs row c.args.output c.requires.output marks needed circuit wide old c.requires.width mid _ c.in_ok-pairs.ensures.kept bits new pairs c.in_ok-step_pairs.ensures.kept done;
-      kept = search rules;
+      kept = keeps_along old mid new c.in_ok-pairs.ensures.kept c.in_ok-step_pairs.ensures.kept;
       full = search rules;
     }
+
+pub needed_signals-requires-clause-ordered : goal.needed_signals-requires-clause-ordered
+needed_signals-requires-clause-ordered g c =
+    let row = in-row _ _ _ _ c.ordered.view_is c.ordered.invariant in
+    let n_is : c.first_width-inputs.result ≡ width_of c.args.ordered.now = c.first_width-inputs.ensures ∙ ap width_of c.models.ensures in
+    subst₂ AreOrdered (sym n_is) (sym c.deref.ensures.value) row.ordered
+
+pub needed_signals-requires-clause-few : goal.needed_signals-requires-clause-few
+needed_signals-requires-clause-few g c =
+    let row = in-row _ _ _ _ c.ordered.view_is c.ordered.invariant in
+    let n_is : c.first_width-inputs.result ≡ width_of c.args.ordered.now = c.first_width-inputs.ensures ∙ ap width_of c.models.ensures in
+    omega (arith, row.few, n_is, ap length c.deref.ensures.value)
+
+pub needed_signals-requires-clause-root : goal.needed_signals-requires-clause-root
+needed_signals-requires-clause-root g c =
+    let row = in-row _ _ _ _ c.ordered.view_is c.ordered.invariant in
+    let n_is : c.first_width-inputs.result ≡ width_of c.args.ordered.now = c.first_width-inputs.ensures ∙ ap width_of c.models.ensures in
+    let below = row.below c.args.output 0 (output-inside c.args.ordered.now _ _ c.args.output row c.requires.output) in
+    let root = ap (λ outs. get_or outs c.args.output 0) c.as_slice-outputs.ensures.value in
+    omega (arith, below, root, n_is, ap length c.deref.ensures.value)
+
+pub bit_pairs-requires-clause-width : goal.bit_pairs-requires-clause-width
+bit_pairs-requires-clause-width g c = c.requires.width ∙ sym (c.first_width-inputs.ensures ∙ ap width_of c.models.ensures)
+
+pub step_pairs-requires-clause-many : goal.step_pairs-requires-clause-many
+step_pairs-requires-clause-many g c =
+    let wide = c.requires.width ∙ sym (c.first_width-inputs.ensures ∙ ap width_of c.models.ensures) in
+    c.in_ok-pairs.ensures.have.many ∙ sym (c.in_ok-pairs.ensures.kept.width ∙ wide)
+
+pub step_pairs-requires-clause-pairs : goal.step_pairs-requires-clause-pairs
+step_pairs-requires-clause-pairs g c = c.in_ok-pairs.ensures.have.are_pairs
+
+pub step_pairs-requires-clause-ordered : goal.step_pairs-requires-clause-ordered
+step_pairs-requires-clause-ordered g c =
+    let row = in-row _ _ _ _ c.ordered.view_is c.ordered.invariant in
+    subst₂ AreOrdered (sym (c.in_ok-pairs.ensures.kept.width ∙ c.requires.width)) (sym c.deref-3.ensures.value) row.ordered
+
+pub returns-in_err-step_pairs-clause-kept : goal.returns-in_err-step_pairs-clause-kept
+returns-in_err-step_pairs-clause-kept g c =
+    keeps_along (g.P.Space.meaning c.args.space.now) (g.P.Space.meaning c.bit_pairs.new.space) (g.P.Space.meaning c.step_pairs.new.space) c.in_ok-pairs.ensures.kept c.in_err-step_pairs.ensures.kept
+
+pub bit_pairs-requires-clause-marks : goal.bit_pairs-requires-clause-marks
+bit_pairs-requires-clause-marks g c = omega (arith, c.in_ok-marks.ensures.many, ap length c.deref-2.ensures.value)
+
+pub step_pairs-requires-clause-marks : goal.step_pairs-requires-clause-marks
+step_pairs-requires-clause-marks g c =
+    let root : ℕ = get_or c.as_slice-outputs.result.now c.args.output 0 in
+    let wide = c.in_ok-pairs.ensures.kept.width ∙ c.requires.width ∙ sym (c.first_width-inputs.ensures ∙ ap width_of c.models.ensures) in
+    let steps : c.deref.result.now ≡ c.deref-3.result.now = c.deref.ensures.value ∙ sym c.deref-3.ensures.value in (
+      root,
+      subst (λ n. AreNeeded n c.deref-3.result.now root c.deref-4.result.now 0) (sym wide)
+          (subst₂ (λ l marks. AreNeeded c.first_width-inputs.result l root marks 0) steps (sym c.deref-4.ensures.value) c.in_ok-marks.ensures),
+    )
+
+pub bounds-made-root : goal.bounds-made-root
+bounds-made-root g c =
+    let row = in-row _ _ _ _ c.ordered.view_is c.ordered.invariant in
+    let below = row.below c.args.output 0 (output-inside c.args.ordered.now _ _ c.args.output row c.requires.output) in
+    let root = ap (λ outs. get_or outs c.args.output 0) c.as_slice-outputs.ensures.value in
+    omega (arith, below, root, c.in_ok-pairs.ensures.kept.width, c.requires.width, c.in_ok-step_pairs.ensures.have.many, ap length c.deref-3.ensures.value, ap length c.as_slice-made.ensures.value)

@@ -1,4 +1,4 @@
-use Rattle.ncl_match.proofs.SignalLaws.{[], All, Bool, Err, HasFunction, List, Pair, Some, SpaceData, Step, ap, arith, bit_at, common_steps, cover_function, cover_tables, false, fits, functions_at, handed_on, if◌then◌else◌, length, length_push, map, pair_at, pairs-begin, pairs-more, refl, signal_function, slice_get, slice_get_read, step-has, step-refused, step-turn, step-within, step_tables, subst, sym, true, with_tables, ℕ, ◌++◌, ◌+◌, ◌<◌, ◌∙◌, ◌∷◌, ◌≡◌}
+use Rattle.ncl_match.proofs.SignalLaws.{[], All, Bool, Err, HasFunction, IsPair, List, Pair, Some, SpaceData, Step, ap, arith, bit_at, common_steps, cover_function, cover_tables, false, fits, functions_at, handed_on, keeps_along, if◌then◌else◌, length, length_push, map, pair_at, pairs-begin, pairs-more, refl, signal_function, slice_get, slice_get_read, step-has, step-refused, step-turn, step-within, step_tables, subst, sym, true, with_tables, ℕ, ◌++◌, ◌+◌, ◌<◌, ◌∙◌, ◌∷◌, ◌≡◌}
 use Rattle.ncl_match.proofs.signals.step_pairs.Goals as goal
 
 pub loop-step-init : goal.loop-step-init
@@ -75,3 +75,18 @@ loop-step-preserved g c =
       done = pairs-more old now new (step_tables old.width steps marks) (signal_function steps) marks pairs place p l c.in_ok-pair.ensures.kept c.in_ok-pair.ensures.pair
           (step-has old now steps marks pairs place root step at c.requires.ordered needed many l new p c.in_ok-pair.ensures.kept has) held c.push.new.self.items more;
     }
+
+pub step_pair-requires-clause-pairs : goal.step_pair-requires-clause-pairs
+step_pair-requires-clause-pairs g c =
+    subst (All (IsPair (g.P.Space.meaning c.loop-step.space))) (sym c.as_slice-before.ensures.value) c.loop-step.invariant.done.pairs_too
+
+pub returns-in_err-pair-clause-kept : goal.returns-in_err-pair-clause-kept
+returns-in_err-pair-clause-kept g c =
+    keeps_along (g.P.Space.meaning c.args.space.now) (g.P.Space.meaning c.loop-step.space) (g.P.Space.meaning c.step_pair.new.space) c.loop-step.invariant.done.turned.kept c.in_err-pair.ensures.kept
+
+pub returns-in_err-push-clause-kept : goal.returns-in_err-push-clause-kept
+returns-in_err-push-clause-kept g c =
+    keeps_along (g.P.Space.meaning c.args.space.now) (g.P.Space.meaning c.loop-step.space) (g.P.Space.meaning c.step_pair.new.space) c.loop-step.invariant.done.turned.kept c.in_ok-pair.ensures.kept
+
+pub returns-clause-kept : goal.returns-clause-kept
+returns-clause-kept g c = c.loop-step.invariant.done.turned.kept

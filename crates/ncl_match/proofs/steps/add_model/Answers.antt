@@ -1,4 +1,4 @@
-use Rattle.ncl_match.proofs.StepLaws.{All, AreAdded, Cover, IsOrder, IsSome, List, Model, Option, Step, added-more, added-whole, ap, dependency_graph, get, get_or, length, map, nat_cmp, outputs_known, subst, sym, take, take_all, take_more, turn_done, turn_fresh, turn_known, turn_widths, ℕ, ◌∙◌, ◌≡◌, ◌≤◌}
+use Rattle.ncl_match.proofs.StepLaws.{All, AreAdded, Cover, IsOrder, IsSome, List, Model, Option, Step, added-more, added-whole, ap, dependency_graph, get, get_or, length, map, nat_cmp, outputs_known, subst, sym, take, take_all, take_more, turn_done, turn_few, turn_fresh, turn_known, turn_widths, turn_within, ℕ, ◌<◌, ◌∙◌, ◌≡◌, ◌≤◌}
 use Rattle.ncl_match.proofs.steps.add_model.Goals as goal
 
 -- the order as it is read, and the cover at a place of it
@@ -50,3 +50,17 @@ returns c =
     let (ordered, all) = whole-order c.args.inputs c.args.steps.now.items c.loop-place.steps.items c.args.model.now c.args.ins.now number c.deref-place-items.result.now _ c.loop-place.place-index c.deref-place-items.ensures.value c.in_ok-order.ensures c.loop-place-test.false c.loop-place.invariant in
     added-whole c.args.inputs c.args.steps.now.items c.loop-place.steps.items c.args.model.now c.requires.model c.args.ins.now c.requires.ins number _ ordered all c.in_ok-outs.outs.items
     (c.in_ok-outs.ensures ∙ ap (map number) c.items.ensures)
+
+pub add_step-requires-clause-few : goal.add_step-requires-clause-few
+add_step-requires-clause-few c =
+    let order : List ℕ = c.deref-place-items.result.now in
+    let cover : Cover = c.index-covers-place.result in
+    let (ordered, at) = turn-read c.args.model.now order _ c.items-covers.result.now c.loop-place.place-index cover c.deref-place-items.ensures.value c.in_ok-order.ensures c.items-covers.ensures c.index-covers-place.is in
+    turn_few c.args.inputs c.args.steps.now.items c.loop-place.steps.items c.args.model.now c.requires.model c.args.ins.now c.requires.ins (get nat_cmp c.loop-place.numbers) order ordered c.loop-place.place-index c.loop-place-test.true c.loop-place.invariant cover at c.requires.few
+
+pub bounds-covers-place : goal.bounds-covers-place
+bounds-covers-place c =
+    let m : Model = c.args.model.now in
+    let order : List ℕ = c.deref-place-items.result.now in
+    let ordered = subst (IsOrder (dependency_graph m.covers)) (sym c.deref-place-items.ensures.value) c.in_ok-order.ensures in
+    subst (λ (covers : List Cover). get_or order c.loop-place.place-index 0 < length covers) (sym c.items-covers.ensures) (turn_within m c.requires.model order ordered c.loop-place.place-index c.loop-place-test.true)

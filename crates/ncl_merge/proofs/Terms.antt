@@ -19,7 +19,7 @@ pub use Rattle.ncl_cell_roles.specs.Layout.{IsLayoutOf, Layout, rail_at}
 pub use Rattle.ncl_cell_rules.proofs.Drivers.{cell_fits, driver_of, no_cell_drives_port, same_driver, same_place}
 pub use Rattle.ncl_cell_rules.proofs.GateRanks.{gate_ranks}
 pub use Rattle.ncl_cell_rules.proofs.OriginLaws.{bank_of_ack, bank_of_register, cell_of_rail, driver_of_ack, origin_within, place_of, sort_of}
-pub use Rattle.ncl_cell_rules.proofs.PinCounts.{AreCountsOf, few_counts, own_pins}
+pub use Rattle.ncl_cell_rules.proofs.PinCounts.{AreCountsOf, counts_more, counts_whole, few_counts, own_pins}
 pub use Rattle.ncl_cell_rules.specs.CellTests.{is_gate}
 pub use Rattle.ncl_cell_rules.specs.Free.{IsFree}
 pub use Rattle.ncl_cell_rules.specs.Origin.{A, AckOf, AcksBank, B, CellAt, ComesFrom, FromPort, HasOnlyOrigin, IsAck, IsCell, IsDataBank, IsGate, IsInputPort, IsOfBank, IsOutputPort, IsRegister, LeadsTo, OnPin, Origin, RST, RailOf, ReadsNet, ack, gate, more, one, port, rail}

@@ -1,6 +1,5 @@
 use Rattle.ncl_sim.proofs.Quiet.{Fire, Taken, ap, arith, get_or, is_take, length, map, no-take, refl, subst, sym, take, taken-before, taken-pairs, taken-stays, taken-times, ◌<◌, ◌∙◌, ◌≡◌}
-use Rattle.ncl_sim.proofs.Terms.{Fired, length-map, takes_in}
-use Rattle.std.proofs.lemmas.List.{take_all}
+use Rattle.ncl_sim.proofs.Terms.{Fired, length-map, take_all, takes_in}
 use Rattle.ncl_sim.proofs.simulator.delivered.Goals as goal
 use Rattle.ncl_sim.proofs.simulator.delivered.Goals.{in-Take+in_ok-pair+in_ok-push}
 use Rattle.ncl_sim.proofs.simulator.delivered.Goals.{in_default}

@@ -1,7 +1,5 @@
 use Rattle.ncl_sim.proofs.CalendarLaws.{Event, IsWheel, List, [], ap, joined, list_at, suc, tables, zero, ℕ, ◌++◌, ◌∙◌, ◌∷◌, ◌≡◌}
-use Rattle.ncl_sim.proofs.Terms.{All, All-nil, arith, length-replicate, map-append, refl, replicate, subst, sym, true}
-use Rattle.std.proofs.lemmas.List.{replicate_more}
-use Rattle.ncl_sim.specs.Calendar.{IsDueIn}
+use Rattle.ncl_sim.proofs.Terms.{All, All-nil, IsDueIn, arith, length-replicate, map-append, refl, replicate, replicate_more, subst, sym, true}
 use Rattle.ncl_sim.proofs.wheel.Wheel.new.Goals as goal
 
 -- nothing is in lists without anything

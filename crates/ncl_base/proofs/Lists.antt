@@ -1,5 +1,5 @@
 -- When two lists are the same: at each place, in increasing order, or but for their order.
-use Rattle.ncl_base.proofs.Terms.{AllPairs, AllPairs-cons, AllZip, Contains-permutation, IsPermutation, IsPermutation-cons, IsPermutation-refl, IsPermutation-remove, IsPermutation-trans, List, Some, [], ap, append-nil, arith, cases_lt, get_or, get_or_from_slice_get, inl, inr, length, length-append, length_permutation, map, refl, remove, slice_get, slice_get_within, subst, suc, sym, zero, ℕ, ◌++◌, ◌<◌, ◌∷◌, ◌≡◌, ◌≢◌, ◌≤◌}
+use Rattle.ncl_base.proofs.Terms.{AllPairs, AllPairs-cons, AllZip, Contains-permutation, IsPermutation, IsPermutation-cons, IsPermutation-refl, IsPermutation-remove, IsPermutation-trans, List, Some, [], ap, append-nil, arith, cases_lt, get_or, get_or_from_slice_get, inl, inr, length, length-append, length_permutation, map, refl, remove, slice_get, slice_get_within, subst, suc, sym, zero, ℕ, ◌++◌, ◌<◌, ◌∷◌, ◌≡◌, ◌≢◌, ◌≤◌, drop, take, common_steps}
 use Rattle.ncl_base.proofs.Members.{Member, here, there, member_of_map, Contains-from_Member, Member-from_Contains, All-from_members}
 
 -- lists that have the same at each place
@@ -151,3 +151,7 @@ IsPermutation-from_members {X} key xs ys differ_x differ_y to from =
     no_rest : (rest : List X) → length rest ≡ 0 → IsPermutation xs (ys ++ rest) → IsPermutation xs ys
     no_rest [] none moved = subst (IsPermutation xs) (append-nil ys) moved
     no_rest (z ∷ rest) none moved = absurd (omega arith)
+
+-- where a slice that stands for all of a list is written, the list is the slice afterwards
+pub take-written : {X : Type 0} (len : ℕ) (new old : List X) → len ≡ length old → length new ≡ length old → take len (new ++ drop (length new) old) ≡ new
+take-written len new old all many = grind (arith, common_steps)

@@ -17,7 +17,7 @@ pub use Rattle.std.specs.Option.{option_map, option_or}
 pub use Rattle.std.specs.Ordering.{nat_cmp}
 pub use Rattle.std.specs.Prelude.{All, AllPairs, Contains, IfOk, IsErrAnd, IsSome, slice_get, sum_by, ◌==◌, ◌↔◌}
 pub use Rattle.ncl_base.proofs.Growing.{cut_at}
-pub use Rattle.ncl_base.proofs.Lists.{pairs-head, pairs-tail}
+pub use Rattle.ncl_base.proofs.Lists.{pairs-head, pairs-tail, take-written}
 pub use Rattle.ncl_base.proofs.Members.{All-from_members, Contains-from_Member, Contains-from_slice_get, Member, Member-append_cases, Member-append_left, Member-append_right, Member-from_Contains, Member-get_or, Member-map, here, list_any-from_member, member_cases, member_from_list_any, member_of_map, slice_get-from_Contains, slice_get-some, there}
 pub use Rattle.ncl_base.proofs.Ranges.{range_with_len-more}
 pub use Rattle.ncl_base.proofs.Tests.{All-left, All-member, All-right, map-same, same_from_both}

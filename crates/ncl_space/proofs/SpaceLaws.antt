@@ -1,7 +1,13 @@
 -- How calls of a space follow one another: what is held after some tables and after more, and when all fit.
-use Rattle.ncl_space.proofs.Terms.{Beads, Bool, IsSpace, Keeps, List, None, Option, Some, SpaceData, Within, [], ap, arith, bead_count, beads_of, bool_cmp, cond, distinct_beads, eq_by_cmp, false, fits, flat_map, inl, inr, is_bead, is_within, nat_tests, or-assoc, or_cases, or_left, or_right, refl, slice_cmp, subst, sym, true, with_tables, ℕ, ◌++◌, ◌+◌, ◌||◌, ◌∙◌, ◌∷◌, ◌≡◌, ◌≤◌}
+use Rattle.ncl_space.proofs.Terms.{Beads, Bool, IsSpace, Keeps, List, None, Option, Some, SpaceData, Within, [], ap, arith, bead_count, beads_of, bool_cmp, cond, distinct_beads, eq_by_cmp, false, fits, flat_map, inl, inr, is_bead, is_within, nat_tests, or-assoc, or_cases, or_left, or_right, refl, slice_cmp, subst, sym, true, with_tables, ℕ, ◌++◌, ◌+◌, ◌||◌, ◌∙◌, ◌∷◌, ◌≡◌, ◌≤◌, All, IsLive, Ref, zero, suc}
 use Rattle.std.specs.FinSet as set
 use Rattle.ncl_space.proofs.BeadLaws.{table_order, one_set, distinct_beads-append}
+
+-- where two refs are live, all of the list of the two are
+pub both-live : (s : SpaceData) (p q : Ref) → IsLive s p → IsLive s q → All (IsLive s) (p ∷ q ∷ [])
+both-live s p q first second zero d lt = first
+both-live s p q first second (suc zero) d lt = second
+both-live s p q first second (suc (suc k)) d lt = absurd (omega arith)
 
 -- what two calls keep, both keep
 pub keeps_along : (a b d : SpaceData) → Keeps a b → Keeps b d → Keeps a d

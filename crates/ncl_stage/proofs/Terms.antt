@@ -28,7 +28,7 @@ pub use Rattle.std.specs.Prelude.{All, AllPairs, Contains, IfOk, IsTrue, Result,
 pub use Rattle.indexmap.specs.IndexSet.{insert_key}
 pub use Rattle.ncl_base.proofs.Growing.{from_push, map_push, position_from-found, split_at}
 pub use Rattle.ncl_base.proofs.Joined.{member_of_flat_map}
-pub use Rattle.ncl_base.proofs.Lists.{pairs-head, pairs-tail}
+pub use Rattle.ncl_base.proofs.Lists.{pairs-head, pairs-tail, take-written}
 pub use Rattle.ncl_base.proofs.Members.{All-from_members, Contains-from_Member, Contains-from_slice_get, Member, Member-append_cases, Member-append_left, Member-append_right, Member-from_Contains, Member-get_or, Member-map, here, list_any-from_member, member-found, member_cases, member_from_list_any, member_of_map, recursion_from_members, slice_get-from_Contains, there}
 pub use Rattle.ncl_base.proofs.ListTables.{grows-along, nothing-at, put-more}
 pub use Rattle.ncl_base.proofs.Ranges.{Member-range, below_of_range, range_with_len-more}
@@ -62,7 +62,7 @@ pub use Rattle.ncl_shape.specs.declared.stage.StageCell.{StageCell}
 pub use Rattle.ncl_space.proofs.BeadLaws.{bead_count-computes, bead_count-permuted, distinct_count}
 pub use Rattle.ncl_space.proofs.BoundLaws.{Member-words}
 pub use Rattle.ncl_space.proofs.MakingLaws.{Making, handed_on, have-at, have-kept, have-length, held-along, makes-live, making-next, making-none, making-one, map-cut, too_much-after, too_much-front, too_much-next, with_tables-live}
-pub use Rattle.ncl_space.proofs.SpaceLaws.{keeps_all, keeps_along, too_much_by_front}
+pub use Rattle.ncl_space.proofs.SpaceLaws.{both-live, keeps_all, keeps_along, too_much_by_front}
 pub use Rattle.ncl_space.proofs.TableLaws.{at_table, least-table_of, least-zero_table_of, length-table_of, table_of-at, table_of-same}
 pub use Rattle.ncl_space.specs.Beads.{beads_of}
 pub use Rattle.ncl_space.specs.Functions.{at, constant_table, gate_table, is_value, least, rail_table}

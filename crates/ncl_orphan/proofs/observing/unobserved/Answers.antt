@@ -1,5 +1,5 @@
-use Rattle.std.proofs.Common.{◌≡◌, ℕ, zero, suc, ◌<◌, Bool, true, false, List, [], ◌∷◌, Err, length, get_or, sym, ◌∙◌, ap, subst, arith}
-use Rattle.std.specs.Prelude.{All, Contains}
+use Rattle.std.proofs.Common.{◌≡◌, ℕ, ◌<◌, Bool, true, false, List, [], ◌∷◌, Err, length, get_or, sym, ◌∙◌, ap, subst, arith}
+use Rattle.std.specs.Prelude.{Contains}
 use Rattle.std.proofs.lemmas.Result.{IfOk-weaker, on_ok_weaker}
 use Rattle.ncl_gates.specs.declared.kind.Kind.TheVariants.{Th22}
 use Rattle.ncl_shape.specs.declared.stage.StageCell.{StageCell}
@@ -7,8 +7,7 @@ use Rattle.ncl_shape.specs.Stage.{StageData, rail_nets, out_of}
 use Rattle.ncl_base.proofs.Members.{Contains-from_Member, Member-append_right, Member-map, Member-get_or}
 use Rattle.ncl_space.specs.Functions.{gate_table, least}
 use Rattle.ncl_space.specs.Space.{IsLive, SpaceData, fits}
-use Rattle.ncl_space.specs.declared.space.Ref.{Ref}
-use Rattle.ncl_space.proofs.SpaceLaws.{keeps_along, too_much_by_front}
+use Rattle.ncl_space.proofs.SpaceLaws.{both-live, keeps_along, too_much_by_front}
 use Rattle.ncl_space.proofs.MakingLaws.{fits-along, handed_on}
 use Rattle.ncl_faults.specs.declared.variant.Variant.TheVariants.{Base, Cell}
 use Rattle.ncl_faults.specs.Faults.{Orphan}
@@ -71,12 +70,7 @@ returns g c =
       fits = on_ok_weaker c.apply.result (λ e. sym along ∙ ap (λ t. fits mid (t ∷ [])) (sym is) ∙ e) c.apply.ensures.fits;
     }
 
-both : (s : SpaceData) (p q : Ref) → IsLive s p → IsLive s q → All (IsLive s) (p ∷ q ∷ [])
-both s p q first second zero d lt = first
-both s p q first second (suc zero) d lt = second
-both s p q first second (suc (suc k)) d lt = absurd (omega arith)
-
 pub apply-requires-clause-live : goal.apply-requires-clause-live
 apply-requires-clause-live g c =
     let shown = c.of-high.ensures.shown (g.P.Space.meaning c.args.space.now) c.args.stage.now Base c.requires.base in
-    both (g.P.Space.meaning c.all_data.new.space) _ _ (c.in_ok-all.ensures.kept.live _ shown.0) c.in_ok-all.ensures.live
+    both-live (g.P.Space.meaning c.all_data.new.space) _ _ (c.in_ok-all.ensures.kept.live _ shown.0) c.in_ok-all.ensures.live

@@ -1,4 +1,4 @@
-use Rattle.ncl_stage.proofs.Terms.{All, Bool, Err, IsLive, Keeps, Kind, List, Makes, Making, Ref, SpaceData, [], ap, arith, drop, false, fits, gate_table, get_or, get_or-map, handed_on, keeps_along, length, making-none, making-one, map, map-cut, map_more, pair_table, subst, suc, sym, take, too_much-front, zero, ℕ, ◌++◌, ◌+◌, ◌<◌, ◌∙◌, ◌∷◌, ◌≡◌}
+use Rattle.ncl_stage.proofs.Terms.{All, Bool, Err, IsLive, Keeps, Kind, List, Makes, Making, Ref, SpaceData, [], ap, drop, false, fits, gate_table, get_or, get_or-map, handed_on, keeps_along, length, making-none, making-one, map, map-cut, map_more, pair_table, subst, sym, take, too_much-front, ℕ, ◌++◌, ◌+◌, ◌<◌, ◌∙◌, ◌∷◌, ◌≡◌, both-live}
 use Rattle.ncl_stage.proofs.outputs.pair_refs.Goals as goal
 
 -- the gate on two Refs that were live at first
@@ -55,16 +55,11 @@ bounds-refs-pair-in-loop-pair g c = (c.requires.within c.loop-pair.pair-index (0
 pub apply-requires-clause-arity : goal.apply-requires-clause-arity
 apply-requires-clause-arity g c = sym c.requires.kind
 
-both : (s : SpaceData) (p q : Ref) → IsLive s p → IsLive s q → All (IsLive s) (p ∷ q ∷ [])
-both s p q first second zero d lt = first
-both s p q first second (suc zero) d lt = second
-both s p q first second (suc (suc k)) d lt = absurd (omega arith)
-
 pub apply-requires-clause-live : goal.apply-requires-clause-live
 apply-requires-clause-live g c =
     let none : Ref = record { place = 0 } in
     let within = c.requires.within c.loop-pair.pair-index (0, 0) c.loop-pair-test.true in
-    both (g.P.Space.meaning c.loop-pair.space) _ _ (c.loop-pair.invariant.kept.live _ (c.requires.live _ none within.0)) (c.loop-pair.invariant.kept.live _ (c.requires.live _ none within.1))
+    both-live (g.P.Space.meaning c.loop-pair.space) _ _ (c.loop-pair.invariant.kept.live _ (c.requires.live _ none within.0)) (c.loop-pair.invariant.kept.live _ (c.requires.live _ none within.1))
 
 pub returns-in_err-push-clause-kept : goal.returns-in_err-push-clause-kept
 returns-in_err-push-clause-kept g c =

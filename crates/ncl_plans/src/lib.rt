@@ -4,9 +4,9 @@
 //! what an operation on signals comes to, a signal that there is or a small node; `pool` keeps the small nodes and finds equal ones
 //! again; `adding` and `plan` add operations one after another. A choice is at most four leaves, the nodes through which a node is
 //! computed of them, and a plan. Whoever makes one isn't trusted: `evaluating` tries the plan at the sixteen words of the leaves,
-//! through the nodes between (`cone`), of which `freeing` finds those that are needed, and which are so no longer where one is made
-//! another, and `cone_table` a table over the leaves; these have no contract, as searches ask them alone. `costs` says what networks cost and about how many cells they become, as is reckoned in a
-//! `way`, and `stop` why a network isn't improved.
+//! through the nodes between (`cone`). `freeing` finds these, and which are needed no longer once one is made another, and
+//! `cone_table` a table over the leaves: without a contract, since what they find is tried. `costs` says what networks cost and
+//! about how many cells they become, as is reckoned in a `way`, and `stop` why a network isn't improved.
 #![tactic(auto)]
 
 mod adding;

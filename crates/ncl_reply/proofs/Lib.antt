@@ -1,3 +1,4 @@
 mod Held
 pub mod Refusals
+pub mod Reading
 pub mod Statuses

@@ -19,7 +19,7 @@ Refuses-weaker kind other follows fault.Read h = tt
 Refuses-weaker kind other follows fault.Memory h = tt
 
 -- a fault that is handed on answers as it refuses
-Replies-refused : (kind : List ℕ → Type 0) (relation : ℕ → List ℕ → Type 0) → ((line : List ℕ) → kind line → relation 3 line) → (f : Fault) → Refuses kind f → (r : Result Reply Fault) → IsErrAnd r (λ e. e ≡ f) → Replies relation r
+pub Replies-refused : (kind : List ℕ → Type 0) (relation : ℕ → List ℕ → Type 0) → ((line : List ℕ) → kind line → relation 3 line) → (f : Fault) → Refuses kind f → (r : Result Reply Fault) → IsErrAnd r (λ e. e ≡ f) → Replies relation r
 Replies-refused kind relation follows f h (Ok reply) is = absurd is
 Replies-refused kind relation follows f h (Err e) is = subst (Refuses (relation 3)) (sym is) (Refuses-weaker kind (relation 3) follows f h)
 
@@ -33,11 +33,6 @@ pub IfErr-long : {A : Type 0} (told : Option Files) (file long : List ℕ) (refu
 IfErr-long told file long refused follows f h r is =
     IfErr-refused (λ line. (line ≡ long) × IsTooLong told file) (ComesFrom told file refused)
     (λ line is. record { bytes = is.1.bytes; given = is.1.given; is = subst (refused is.1.bytes) (sym is.0) (follows is.1.bytes is.1.many) }) f h r is
-
--- the answer to a file whose bytes are refused
-pub Replies-from : (told : Option Files) (file : List ℕ) (refused : List ℕ → List ℕ → Type 0) (relation : ℕ → List ℕ → Type 0) → ((bytes : List ℕ) → IsGiven told file bytes → (line : List ℕ) → refused bytes line → relation 3 line) → (f : Fault) → Refuses (ComesFrom told file refused) f → (r : Result Reply Fault) → IsErrAnd r (λ e. e ≡ f) → Replies relation r
-Replies-from told file refused relation follows f h r is =
-    Replies-refused (ComesFrom told file refused) relation (λ line from. follows from.bytes from.given line from.is) f h r is
 
 -- the answer to a file that has more bytes than are read
 pub Replies-long : (told : Option Files) (file long : List ℕ) (relation : ℕ → List ℕ → Type 0) → ((bytes : List ℕ) → IsGiven told file bytes → MOST_BYTES < length bytes → relation 3 long) → (f : Fault) → Refuses (λ line. (line ≡ long) × IsTooLong told file) f → (r : Result Reply Fault) → IsErrAnd r (λ e. e ≡ f) → Replies relation r

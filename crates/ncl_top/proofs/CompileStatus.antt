@@ -1,5 +1,5 @@
--- The bytes of a file determine the status of what `compile` replies to them.
-use Rattle.ncl_top.proofs.Terms.{All-contains, Bool, CanBeCompiled, CompileFault, Contains-from_slice_get, IsCompileFault, IsCompileReply, IsModelsReply, IsSlim, List, Model, TooLong, TooMany, TooWide, arith, compiled, modelled, no_models, refl, subst, too_large, ℕ, ◌≡◌, ◌≢◌}
+-- The bytes of a file determine the status of what `compile` replies to it.
+use Rattle.ncl_top.proofs.Terms.{All-contains, AreModelsText, AreRefusedModels, Bool, CanBeCompiled, CompileFault, Contains-from_slice_get, Files, IsCompileFault, IsCompiledFile, IsModelsReply, IsReadReply-alike, IsSlim, List, Model, Some, TooLong, TooMany, TooWide, arith, compiled, refl, subst, too_large, ℕ, ◌≡◌, ◌≢◌}
 use Rattle.ncl_compile.specs.declared.fault.CompileFault.TheVariants.{Memory}
 use Rattle.ncl_top.proofs.ModelsText.{one_models, refused_models_none}
 
@@ -17,11 +17,12 @@ models_status models merge (too_large fault named is) (compiled can n of text wr
 models_status models merge (compiled can n of text written) (too_large fault named is) = absurd (no_fault models can fault named is)
 models_status models merge (compiled can n of text written) (compiled can' n' of' text' written') = refl
 
--- whatever is replied to bytes, its status is the same
-pub same_compile_status : (bytes : List ℕ) (merge : Bool) {status other : ℕ} {text line : List ℕ} → IsCompileReply bytes merge status text → IsCompileReply bytes merge other line → status ≡ other
-same_compile_status bytes merge (no_models text none) (no_models line none') = refl
-same_compile_status bytes merge (no_models text none) (modelled models said status line reply) = absurd (refused_models_none bytes models none said)
-same_compile_status bytes merge (modelled models said status text reply) (no_models line none) = absurd (refused_models_none bytes models none said)
-same_compile_status bytes merge (modelled models said status text reply) (modelled models' said' status' line reply') =
-    let same : models ≡ models' = one_models bytes models models' said said' in
-    models_status models' merge (subst (λ ms. IsModelsReply ms merge status text) same reply) reply'
+-- whatever is replied to a file, its status is the same
+pub same_compile_status : (files : Files) (file : List ℕ) (merge : Bool) {status other : ℕ} {text line : List ℕ} → IsCompiledFile (Some files) file merge status text → IsCompiledFile (Some files) file merge other line → status ≡ other
+same_compile_status files file merge =
+    IsReadReply-alike AreRefusedModels AreModelsText (λ models. IsModelsReply models merge) (λ status other text line. status ≡ other) (λ models. IsModelsReply models merge)
+    (λ bytes text line none none'. refl) (λ bytes text models none said. refused_models_none bytes models none said)
+    (λ bytes models models' said said' status other text line reply reply'.
+        let same : models ≡ models' = one_models bytes models models' said said' in
+        models_status models' merge (subst (λ ms. IsModelsReply ms merge status text) same reply) reply')
+    files file

@@ -1,5 +1,5 @@
 -- What is compiled works at every gate delay, and is accepted.
-use Rattle.ncl_top.proofs.Terms.{Arguments, Bool, Compiled, CompilesWhatWorks, IsCompileReply, IsCompiledText, IsMergedText, IsModelsReply, List, Model, NetlistData, Ran, Shape, SinkState, SourceState, WorksAndIsAccepted, ap, arith, both_ways, compile, compiled, delay_insensitive, inl, inr, merged, modelled, netlist_of, no_models, outcome_is, outcome_of, plain, reads_again, refl, sound_verdict, subst, sym, too_large, true, ℕ, ◌∙◌, ◌≡◌}
+use Rattle.ncl_top.proofs.Terms.{AreModelsText, AreRefusedModels, Arguments, Bool, Compiled, CompilesWhatWorks, Files, IsCompiledFile, IsCompiledText, IsMergedText, IsModelsReply, IsReadReply-said, List, Model, NetlistData, Option, Ran, Shape, SinkState, SourceState, WorksAndIsAccepted, ap, arith, both_ways, compile, compiled, delay_insensitive, inl, inr, merged, netlist_of, outcome_is, outcome_of, plain, reads_again, refl, sound_verdict, subst, sym, too_large, true, ℕ, ◌∙◌, ◌≡◌}
 use Rattle.ncl_writer.specs.Text.{text_of}
 use Rattle.ncl_top.proofs.Ends.{replied_well}
 use Rattle.ncl_top.proofs.PlainNames.{writable}
@@ -33,13 +33,14 @@ models_work : (models : List Model) (merge : Bool) {status : ℕ} {text : List �
 models_work models merge (too_large fault named is) e = absurd (omega arith)
 models_work models merge (compiled can n of text written) e = text_works models n merge of written
 
-file_works : (bytes : List ℕ) (merge : Bool) {status : ℕ} {text : List ℕ} → IsCompileReply bytes merge status text → status ≡ 0 → IsGood merge text
-file_works bytes merge (no_models text none) e = absurd (omega arith)
-file_works bytes merge (modelled models said status text reply) e = models_work models merge reply e
+file_works : (told : Option Files) (file : List ℕ) (merge : Bool) {text : List ℕ} → IsCompiledFile told file merge 0 text → IsGood merge text
+file_works told file merge reply =
+    let (models, _, made) = IsReadReply-said AreRefusedModels AreModelsText (λ models. IsModelsReply models merge) told file reply (λ e. absurd (omega arith)) in
+    models_work models merge made refl
 
 -- whatever ended with status 0 on compiling, ended so with a text that works
 pub compiles_what_works : (arguments : Arguments) (source source' : SourceState) (sink sink' : SinkState) (status : ℕ) → Ran arguments source source' sink sink' status → CompilesWhatWorks arguments sink sink' status
 compiles_what_works arguments source source' sink sink' status ran file merge asked e =
     let (text, reply, grew) = replied_well arguments source source' sink sink' status ran (compile file merge) asked e in
-    let (works, from) = file_works reply.bytes merge reply.reply refl in
+    let (works, from) = file_works source.files file merge reply in
     (text, works, from, grew)

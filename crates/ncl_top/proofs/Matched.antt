@@ -1,7 +1,6 @@
 -- There is at most one reply to the files of a comparison.
-use Rattle.ncl_top.proofs.Terms.{AreModelsText, AreRefusedModels, Circuit, CompareFault, Compared, Differ, Err, Files, Full, IsAnswer, IsMatchReply, IsMatched, IsModelsMatched, IsPipelineText, IsRefusedText, IsSamePipeline, List, Model, Ok, PipelineData, Result, Same, Shape, Some, Widths, ap, circuit_of, codes, compared, differ_line, differs, full, limit_line, line, no_pipeline, one_pipeline, one_whole, out_of_memory, refl, refused_is_none, refused_once, same, shape_is_one, subst, sym, widths, widths_line, ℕ, ◌∙◌, ◌≡◌, ◌≢◌}
+use Rattle.ncl_top.proofs.Terms.{AreModelsText, AreRefusedModels, Circuit, CompareFault, Compared, Differ, Err, Files, Full, IsAnswer, IsMatchReply, IsMatched, IsModelsMatched, IsPipelineText, IsReadReply-alike, IsRefusedText, IsSamePipeline, List, Model, Ok, PipelineData, Result, Same, Shape, Some, Widths, ap, circuit_of, codes, differ_line, differs, full, limit_line, line, one_pipeline, one_whole, out_of_memory, refl, refused_is_none, refused_once, same, shape_is_one, subst, sym, widths, widths_line, ℕ, ◌∙◌, ◌≡◌, ◌≢◌}
 use Rattle.ncl_match.specs.declared.answer.CompareFault.TheVariants.{Memory}
-use Rattle.ncl_top.specs.Matching.{no_models, piped}
 use Rattle.ncl_top.proofs.ModelsText.{one_models, refused_models_none, refused_models_once}
 use Rattle.ncl_top.proofs.Simulated.{SameReply}
 
@@ -49,26 +48,19 @@ same_circuit p q alike shape_p shape_q =
 
 module _ (files : Files) (p q : PipelineData) (alike : circuit_of p ≡ circuit_of q) where
   one_compared : (blif : List ℕ) (limit : ℕ) {status other : ℕ} {text line : List ℕ} → IsModelsMatched (Some files) p blif limit status text → IsModelsMatched (Some files) q blif limit other line → SameReply status other text line
-  one_compared blif limit (no_models bytes given text none) (no_models bytes' given' line none') =
-      (refl, refused_models_once bytes' (subst (λ b. AreRefusedModels b text) (given ∙ sym given') none) none')
-  one_compared blif limit (no_models bytes given text none) (compared bytes' given' models said status line reply) =
-      absurd (refused_models_none bytes' models (subst (λ b. AreRefusedModels b text) (given ∙ sym given') none) said)
-  one_compared blif limit (compared bytes given models said status text reply) (no_models bytes' given' line none) =
-      absurd (refused_models_none bytes' models none (subst (λ b. AreModelsText b models) (given ∙ sym given') said))
-  one_compared blif limit (compared bytes given models said status text reply) (compared bytes' given' models' said' status' line reply') =
-      let one : models ≡ models' = one_models bytes' models models' (subst (λ b. AreModelsText b models) (given ∙ sym given') said) said' in
-      one_matched (circuit_of q) models' limit
-      (subst (λ c. IsMatched c models' limit status text) alike (subst (λ ms. IsMatched (circuit_of p) ms limit status text) one reply)) reply'
+  one_compared blif limit =
+      IsReadReply-alike AreRefusedModels AreModelsText (λ models. IsMatched (circuit_of p) models limit) SameReply (λ models. IsMatched (circuit_of q) models limit)
+      (λ bytes text line none none'. (refl, refused_models_once bytes none none')) (λ bytes text models none said. refused_models_none bytes models none said)
+      (λ bytes models models' said said' status other text line reply reply'.
+          let one : models ≡ models' = one_models bytes models models' said said' in
+          one_matched (circuit_of q) models' limit
+          (subst (λ c. IsMatched c models' limit status text) alike (subst (λ ms. IsMatched (circuit_of p) ms limit status text) one reply)) reply')
+      files blif
 
 -- the files determine the status and the text
 pub one_match_reply : (files : Files) (netlist blif : List ℕ) (limit : ℕ) {status other : ℕ} {text line : List ℕ} → IsMatchReply (Some files) netlist blif limit status text → IsMatchReply (Some files) netlist blif limit other line → SameReply status other text line
-one_match_reply files netlist blif limit (no_pipeline bytes given text none) (no_pipeline bytes' given' line none') =
-    (refl, refused_once bytes' (subst (λ b. IsRefusedText b text) (given ∙ sym given') none) none')
-one_match_reply files netlist blif limit (no_pipeline bytes given text none) (piped bytes' given' q is status line reply) =
-    absurd (refused_is_none bytes' q (subst (λ b. IsRefusedText b text) (given ∙ sym given') none) is)
-one_match_reply files netlist blif limit (piped bytes given p is status text reply) (no_pipeline bytes' given' line none) =
-    absurd (refused_is_none bytes' p none (subst (λ b. IsPipelineText b p) (given ∙ sym given') is))
-one_match_reply files netlist blif limit (piped bytes given p is status text reply) (piped bytes' given' q also status' line reply') =
-    let here : IsPipelineText bytes' p = subst (λ b. IsPipelineText b p) (given ∙ sym given') is in
-    let (alike, shape) = one_pipeline bytes' p q here also in
-    one_compared files p q (same_circuit p q alike here.shape shape) blif limit reply reply'
+one_match_reply files netlist blif limit =
+    IsReadReply-alike IsRefusedText IsPipelineText (λ p. IsModelsMatched (Some files) p blif limit) SameReply (λ p. IsModelsMatched (Some files) p blif limit)
+    (λ bytes text line none none'. (refl, refused_once bytes none none')) (λ bytes text p none is. refused_is_none bytes p none is)
+    (λ bytes p q is also status other text line reply reply'. let (alike, shape) = one_pipeline bytes p q is also in one_compared files p q (same_circuit p q alike is.shape shape) blif limit reply reply')
+    files netlist

@@ -1,6 +1,5 @@
 -- What status 0 of a comparison says.
-use Rattle.ncl_top.proofs.Terms.{Agree, AreModels, Arguments, Bool, Circuit, Computes, DiffersAt, Files, HaveOneFunction, HaveWidths, IsAnswer, IsMatchReply, IsMatched, IsModel, IsModelsMatched, IsPipelineText, List, MatchesWhatIsSame, Model, Ok, PipelineData, Rails, Ran, Same, SinkState, Some, SourceState, [], ap, arith, bit_of, bytes_of, circuit_of, closed, compared, computed, computes_some, differs, ext_get_or, false, full, get_or, length, length-map, matching, no_pipeline, outputs_of, recursion_from_All, refl, same, subst, sym, true, widths, ℕ, ◌+◌, ◌-◌, ◌<◌, ◌∙◌, ◌∷◌, ◌≡◌, ◌≢◌}
-use Rattle.ncl_top.specs.Matching.{no_models, piped}
+use Rattle.ncl_top.proofs.Terms.{Agree, AreModels, AreModelsText, AreRefusedModels, Arguments, Bool, Circuit, Computes, DiffersAt, Files, HaveOneFunction, HaveWidths, IsAnswer, IsMatchReply, IsMatched, IsModel, IsModelsMatched, IsPipelineText, IsReadReply-said, IsRefusedText, List, MatchesWhatIsSame, Model, Ok, Rails, Ran, Same, SinkState, Some, SourceState, [], ap, arith, bit_of, bytes_of, circuit_of, closed, computed, computes_some, differs, ext_get_or, false, full, get_or, length, length-map, matching, outputs_of, recursion_from_All, refl, same, subst, sym, true, widths, ℕ, ◌+◌, ◌-◌, ◌<◌, ◌∙◌, ◌∷◌, ◌≡◌, ◌≢◌}
 use Rattle.ncl_top.proofs.Ends.{replied_well}
 
 -- bits that don't differ are one
@@ -41,26 +40,22 @@ same_by_status c models limit (full output is) e = absurd (omega arith)
 same_by_status c models limit (differs word output is) e = absurd (omega arith)
 same_by_status c models limit (same is) e = is
 
-models_same : (files : Files) (netlist blif : List ℕ) (limit : ℕ) (p : PipelineData) → IsPipelineText netlist p → {status : ℕ} {text : List ℕ} → IsModelsMatched (Some files) p blif limit status text → status ≡ 0 → HaveOneFunction netlist (bytes_of files blif)
-models_same files netlist blif limit p is (no_models bytes given text none) e = absurd (omega arith)
-models_same files netlist blif limit p is (compared bytes given models said status text reply) e =
-    let found = same_by_status (circuit_of p) models limit reply e in
-    subst (HaveOneFunction netlist) given (record {
+files_same : (files : Files) (netlist blif : List ℕ) (limit : ℕ) {text : List ℕ} → IsMatchReply (Some files) netlist blif limit 0 text → HaveOneFunction (bytes_of files netlist) (bytes_of files blif)
+files_same files netlist blif limit reply =
+    let (p, piped, compared) = IsReadReply-said IsRefusedText IsPipelineText (λ p. IsModelsMatched (Some files) p blif limit) (Some files) netlist reply (λ e. absurd (omega arith)) in
+    let (models, said, matched) = IsReadReply-said AreRefusedModels AreModelsText (λ models. IsMatched (circuit_of p) models limit) (Some files) blif compared (λ e. absurd (omega arith)) in
+    let found = same_by_status (circuit_of p) models limit matched refl in
+    record {
       pipeline = p;
-      is = is;
+      is = subst (λ bytes. IsPipelineText bytes p) piped.given piped.is;
       models = models;
-      are = said;
+      are = subst (λ bytes. AreModelsText bytes models) said.given said.is;
       widths = found.0;
-      function = computes_it (circuit_of p) models said.are found.0 found.1.1;
-    })
-
-files_same : (files : Files) (netlist blif : List ℕ) (limit : ℕ) {status : ℕ} {text : List ℕ} → IsMatchReply (Some files) netlist blif limit status text → status ≡ 0 → HaveOneFunction (bytes_of files netlist) (bytes_of files blif)
-files_same files netlist blif limit (no_pipeline bytes given text none) e = absurd (omega arith)
-files_same files netlist blif limit (piped bytes given p is status text reply) e =
-    models_same files (bytes_of files netlist) blif limit p (subst (λ b. IsPipelineText b p) given is) reply e
+      function = computes_it (circuit_of p) models said.is.are found.0 found.1.1;
+    }
 
 -- whatever ended with status 0 on a comparison, ended so on a netlist and models that have one function
 pub matches_what_is_same : (arguments : Arguments) (source source' : SourceState) (sink sink' : SinkState) (status : ℕ) → Ran arguments source source' sink sink' status → MatchesWhatIsSame arguments source status
 matches_what_is_same arguments source source' sink sink' status ran files netlist blif limit told asked e =
     let (text, reply, _) = replied_well arguments source source' sink sink' status ran (matching netlist blif limit) asked e in
-    files_same files netlist blif limit (subst (λ held. IsMatchReply held netlist blif limit 0 text) told reply) refl
+    files_same files netlist blif limit (subst (λ held. IsMatchReply held netlist blif limit 0 text) told reply)

@@ -1,5 +1,5 @@
 -- A pipeline of sound stages runs through at whatever delays.
-use Rattle.ncl_top.proofs.Terms.{Answer, AnswersExactly, AreWordsOf, Arguments, Bool, DeliversAll, IsRunReply, IsTrue, List, PipelineData, Quiet, Ran, SimulatesWhatWorks, SinkState, Some, SourceState, TraceData, ap, arguments_determine_status, arguments_determine_text, arith, bytes_of, command_of, delayed, end_status, inl, inr, length, nat_tests, piped, ran, refl, replied, run_status, run_text, sim, some_run, sound-delivers, sound-ends_quiet, subst, sym, true, words_due, ℕ, ◌==◌, ◌∙◌, ◌≡◌}
+use Rattle.ncl_top.proofs.Terms.{Answer, AnswersExactly, AreWordsOf, Arguments, Bool, ComesFrom, DeliversAll, IsRunReply, IsTrue, List, PipelineData, Quiet, Ran, SimulatesWhatWorks, SinkState, Some, SourceState, TraceData, ap, arguments_determine_status, arguments_determine_text, arith, bytes_of, command_of, end_status, inl, inr, length, nat_tests, reading, refl, replied, run_status, run_text, sim, some_run, sound-delivers, sound-ends_quiet, subst, sym, true, words_due, ℕ, ◌==◌, ◌∙◌, ◌≡◌}
 use Rattle.ncl_top.proofs.Ends.{answers_exactly}
 use Rattle.ncl_top.proofs.WordsRead.{words_fit}
 
@@ -22,12 +22,16 @@ module _ (arguments : Arguments) (source : SourceState) (sink sink' : SinkState)
       let reply : IsRunReply p d offered vcd 0 lines = record { trace = t; run = run; ends = sym ends; told = refl } in
       let answer : Answer arguments (Some files) 0 lines =
       replied (sim netlist delays offers vcd) asked 0 lines
-      (piped (bytes_of files netlist) refl p text 0 lines (delayed (bytes_of files delays) refl d stated 0 lines (ran (bytes_of files offers) refl offered said 0 lines reply))) in
+      (reading p (held netlist text) 0 lines (reading d (held delays stated) 0 lines (reading offered (held offers said) 0 lines reply))) in
       elim (exact files 0 lines told answer (status_determined asked)) [
         | inl (is, written) ↦ inl (is, record { trace = t; run = run; quiet = quiet; delivers = delivers; written = written (determined asked) })
         | inr kept ↦ inr kept
       ]
     where
+      -- what the bytes of a file say comes from the file
+      held : {A : Type 0} {relation : List ℕ → A → Type 0} {what : A} (name : List ℕ) → relation (bytes_of files name) what → ComesFrom (Some files) name relation what
+      held name is = record { bytes = bytes_of files name; given = refl; is = is }
+
       status_determined : command_of arguments ≡ Some (sim netlist delays offers vcd) → IsTrue (arguments_determine_status (command_of arguments))
       status_determined is = subst (λ c. IsTrue (arguments_determine_status c)) (sym is) refl
 

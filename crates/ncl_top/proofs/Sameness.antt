@@ -1,5 +1,5 @@
 -- The arguments and the files have at most one status, and at most one text where they determine it.
-use Rattle.ncl_top.proofs.Terms.{Answer, Arguments, Bool, Command, Files, IsCheckReply, IsCompileReply, IsFileReply, IsReply, IsTrue, List, None, Some, ap, arguments_determine_status, arguments_determine_text, both_ways, check, command_of, compile, demo, determines_status, determines_text, false, matching, not, not_understood, refl, replied, same_reply, sim, status_of, subst, sym, true, ℕ, ◌∙◌, ◌≡◌}
+use Rattle.ncl_top.proofs.Terms.{Answer, Arguments, Bool, Command, Files, IsCheckReply, IsFileReply, IsReply, IsTrue, List, None, Some, ap, arguments_determine_status, arguments_determine_text, both_ways, check, command_of, compile, demo, determines_status, determines_text, false, matching, not, not_understood, refl, replied, same_reply, sim, status_of, subst, sym, true, ℕ, ◌∙◌, ◌≡◌}
 use Rattle.ncl_top.proofs.CompileStatus.{same_compile_status}
 use Rattle.ncl_top.proofs.Matched.{one_match_reply}
 use Rattle.ncl_top.proofs.Simulated.{one_sim_reply}
@@ -17,9 +17,7 @@ plain true asked = absurd (both_ways false refl asked)
 
 same_command_status : (files : Files) (command : Command) → IsTrue (determines_status command) → (status other : ℕ) (text line : List ℕ) → IsReply command (Some files) status text → IsReply command (Some files) other line → status ≡ other
 same_command_status files (check file limit why) determined status other text line one two = (same_file_reply files file limit why status other text line one two).0
-same_command_status files (compile file merge) determined status other text line one two =
-    let bytes : one.bytes ≡ two.bytes = one.given ∙ sym two.given in
-    same_compile_status two.bytes merge (subst (λ bytes. IsCompileReply bytes merge status text) bytes one.reply) two.reply
+same_command_status files (compile file merge) determined status other text line one two = same_compile_status files file merge one two
 same_command_status files (sim netlist delays words vcd) determined status other text line one two = (one_sim_reply files netlist delays words vcd one two).0
 same_command_status files (matching netlist blif limit) determined status other text line one two = (one_match_reply files netlist blif limit one two).0
 same_command_status files (demo bits) determined status other text line one two = absurd (both_ways false refl determined)

@@ -1,5 +1,5 @@
 -- How the parts of a simulation come to its reply.
-use Rattle.ncl_top.proofs.Terms.{AreRefusedDelays, AreRefusedWords, ComesFrom, DelayFault, DelayMemory, Err, Fault, Files, Fixed, Gives, IsErrAnd, IsGiven, IsNetlistText, IsRefusedText, IsShapeless, List, MOST_BITS, MOST_BYTES, Made, NetlistData, Ok, Option, PipelineData, Refusal, Refuses-weaker, Replies, Replies-told, Reply, Result, Shape, Some, TellsLine, WordsFault, WordsMemory, arith, broken_delays, broken_words, cell_names, delay_line, fault_in, fault_of, inl, inr, laid_out_of, length, shapeless, subst, sym, told_lines, words_fault, words_line, ℕ, ◌≡◌, ◌≢◌, ◌≤◌, ◌⊎◌}
+use Rattle.ncl_top.proofs.Terms.{AreRefusedDelays, AreRefusedWords, ComesFrom, DelayFault, DelayMemory, Err, Fault, Files, Fixed, Gives, IsErrAnd, IsNetlistText, IsPipelineText, IsRefusedText, IsShapeless, List, MOST_BITS, MOST_BYTES, Made, NetlistData, Ok, Option, PipelineData, Refusal, Refuses-weaker, Replies, Replies-told, Reply, Result, Shape, Some, TellsLine, WordsFault, WordsMemory, arith, broken_delays, broken_words, cell_names, delay_line, fault_in, fault_of, inl, inr, laid_out_of, length, pipeline_text, shapeless, subst, sym, told_lines, words_fault, words_line, ℕ, ◌≡◌, ◌≢◌, ◌≤◌, ◌⊎◌}
 
 -- a reply that stands in one relation stands in another that follows
 pub gives_from : (relation other : ℕ → List ℕ → Type 0) → ((status : ℕ) (text : List ℕ) → relation status text → other status text) → (r : Reply) → Gives relation r → Gives other r
@@ -12,9 +12,13 @@ Replies-weaker relation other follows (Ok reply) h = gives_from relation other f
 Replies-weaker relation other follows (Err fault) h = Refuses-weaker (relation 3) (other 3) (λ line. follows 3 line) fault h
 
 -- the answer to a netlist that was read and has no shape
-pub Replies-shapeless : (told : Option Files) (file : List ℕ) (n : NetlistData) → ComesFrom told file IsNetlistText n → (relation : ℕ → List ℕ → Type 0) → ((bytes : List ℕ) → IsGiven told file bytes → (line : List ℕ) → IsRefusedText bytes line → relation 3 line) → (refusal : Refusal) → TellsLine (IsShapeless n) refusal → (r : Result Reply Fault) → IsErrAnd r (λ e. e ≡ fault_of refusal) → Replies relation r
+pub Replies-shapeless : (told : Option Files) (file : List ℕ) (n : NetlistData) → ComesFrom told file IsNetlistText n → (relation : ℕ → List ℕ → Type 0) → ((line : List ℕ) → ComesFrom told file IsRefusedText line → relation 3 line) → (refusal : Refusal) → TellsLine (IsShapeless n) refusal → (r : Result Reply Fault) → IsErrAnd r (λ e. e ≡ fault_of refusal) → Replies relation r
 Replies-shapeless told file n from relation follows refusal none r is =
-    Replies-told (IsShapeless n) relation (λ line shapeless_by. follows from.bytes from.given line (shapeless n from.is line shapeless_by)) refusal none r is
+    Replies-told (IsShapeless n) relation (λ line by. follows line (record { bytes = from.bytes; given = from.given; is = shapeless n from.is line by })) refusal none r is
+
+-- a pipeline that is found in a netlist that was read is the text's
+pub pipeline_from : (told : Option Files) (file : List ℕ) (n : NetlistData) (p : PipelineData) → ComesFrom told file IsNetlistText n → Shape n p → ComesFrom told file IsPipelineText p
+pipeline_from told file n p from of = record { bytes = from.bytes; given = from.given; is = pipeline_text from.bytes n p from.is of }
 
 -- a pipeline has 1 to 128 inputs
 pub inputs_some : (p : PipelineData) → Shape p.netlist p → (1 ≤ length p.inputs) × (length p.inputs ≤ MOST_BITS)

@@ -1,6 +1,5 @@
 -- There is at most one reply to the files of a simulation.
-use Rattle.ncl_top.proofs.Terms.{AreDelaysText, AreRefusedDelays, AreRefusedWords, AreWordsText, Bool, DelaysData, Files, IsDelaysReply, IsPipelineText, IsRefusedText, IsRunReply, IsSimReply, IsTimedRun, IsWordsReply, List, NetlistData, None, PipelineData, Shape, Some, TraceData, [], ap, arith, broken_delays, broken_words, character_of, data_banks, delay_line, delayed, end_status, false, length, long_delays, long_words, map, no_delays, no_words, one_pipeline, one_run, piped, ran, refl, refused_is_none, refused_once, run_status, run_text, same_dump, same_runs, shape_is_one, subst, sym, text_of, trace_lines, true, words_due, words_line, ℕ, ◌+◌, ◌==◌, ◌∙◌, ◌∷◌, ◌≡◌}
-use Rattle.ncl_top.specs.Simulating.{no_pipeline}
+use Rattle.ncl_top.proofs.Terms.{AreDelaysText, AreRefusedDelays, AreRefusedWords, AreWordsText, Bool, DelaysData, Files, IsDelaysReply, IsPipelineText, IsRefusedText, IsReadReply, IsReadReply-alike, IsRunReply, IsSimReply, IsTimedRun, IsWordsReply, List, NetlistData, None, PipelineData, Shape, Some, TraceData, [], ap, arith, broken_delays, broken_words, character_of, data_banks, delay_line, end_status, false, length, long_delays, long_words, map, one_pipeline, one_run, refl, refused_is_none, refused_once, run_status, run_text, same_dump, same_runs, shape_is_one, subst, sym, text_of, trace_lines, true, words_due, words_line, ℕ, ◌+◌, ◌==◌, ◌∙◌, ◌∷◌, ◌≡◌}
 
 -- where the items that a function tells alike are one, so are the lists that it tells alike
 one_list : {X Y : Type 0} (f : X → Y) → ((x y : X) → f x ≡ f y → x ≡ y) → (xs ys : List X) → map f xs ≡ map f ys → xs ≡ ys
@@ -83,44 +82,26 @@ module _ (p q : PipelineData) (same : p.netlist ≡ q.netlist) (shape_p : Shape 
 
   module _ (files : Files) where
     one_words_reply : (d : DelaysData) (words : List ℕ) (vcd : Bool) {status other : ℕ} {text line : List ℕ} → IsWordsReply (Some files) p d words vcd status text → IsWordsReply (Some files) q d words vcd other line → SameReply status other text line
-    one_words_reply d words vcd (no_words bytes given text none) (no_words bytes' given' line none') =
-        let is : bytes ≡ bytes' = given ∙ sym given' in
-        let here : AreRefusedWords (length q.inputs) bytes' text = subst (λ b. AreRefusedWords (length q.inputs) b text) is (subst (λ w. AreRefusedWords w bytes text) same_width none) in
-        (refl, refused_words_once (length q.inputs) bytes' here none')
-    one_words_reply d words vcd (no_words bytes given text none) (ran bytes' given' offered said status line reply) =
-        let is : bytes ≡ bytes' = given ∙ sym given' in
-        let here : AreRefusedWords (length q.inputs) bytes' text = subst (λ b. AreRefusedWords (length q.inputs) b text) is (subst (λ w. AreRefusedWords w bytes text) same_width none) in
-        absurd (refused_words_none (length q.inputs) bytes' offered here said)
-    one_words_reply d words vcd (ran bytes given offered said status text reply) (no_words bytes' given' line none) =
-        let is : bytes ≡ bytes' = given ∙ sym given' in
-        let here : AreWordsText (length q.inputs) bytes' offered = subst (λ b. AreWordsText (length q.inputs) b offered) is (subst (λ w. AreWordsText w bytes offered) same_width said) in
-        absurd (refused_words_none (length q.inputs) bytes' offered none here)
-    one_words_reply d words vcd (ran bytes given offered said status text reply) (ran bytes' given' offered' said' status' line reply') =
-        let is : bytes ≡ bytes' = given ∙ sym given' in
-        let here : AreWordsText (length q.inputs) bytes' offered = subst (λ b. AreWordsText (length q.inputs) b offered) is (subst (λ w. AreWordsText w bytes offered) same_width said) in
-        one_run_reply d offered offered' vcd status status' text line (one_words (length q.inputs) bytes' offered offered' here said') reply reply'
+    one_words_reply d words vcd {status} {other} {text} {line} one two =
+        let width = length q.inputs in
+        IsReadReply-alike (AreRefusedWords width) (AreWordsText width) (λ offered. IsRunReply p d offered vcd) SameReply (λ offered. IsRunReply q d offered vcd)
+        (λ bytes text line none none'. (refl, refused_words_once width bytes none none')) (λ bytes text offered none said. refused_words_none width bytes offered none said)
+        (λ bytes v w said said' status other text line reply reply'. one_run_reply d v w vcd status other text line (one_words width bytes v w said said') reply reply')
+        files words (subst (λ n. IsReadReply (Some files) words (AreRefusedWords n) (AreWordsText n) (λ offered. IsRunReply p d offered vcd) status text) same_width one) two
 
     one_delays_reply : (delays words : List ℕ) (vcd : Bool) {status other : ℕ} {text line : List ℕ} → IsDelaysReply (Some files) p delays words vcd status text → IsDelaysReply (Some files) q delays words vcd other line → SameReply status other text line
-    one_delays_reply delays words vcd (no_delays bytes given text none) (no_delays bytes' given' line none') =
-        (refl, refused_delays_once q.netlist bytes' (subst (λ b. AreRefusedDelays q.netlist b text) (given ∙ sym given') (subst (λ n. AreRefusedDelays n bytes text) same none)) none')
-    one_delays_reply delays words vcd (no_delays bytes given text none) (delayed bytes' given' d said status line reply) =
-        absurd (refused_delays_none q.netlist bytes' d (subst (λ b. AreRefusedDelays q.netlist b text) (given ∙ sym given') (subst (λ n. AreRefusedDelays n bytes text) same none)) said)
-    one_delays_reply delays words vcd (delayed bytes given d said status text reply) (no_delays bytes' given' line none) =
-        absurd (refused_delays_none q.netlist bytes' d none (subst (λ b. AreDelaysText q.netlist b d) (given ∙ sym given') (subst (λ n. AreDelaysText n bytes d) same said)))
-    one_delays_reply delays words vcd (delayed bytes given d said status text reply) (delayed bytes' given' d' said' status' line reply') =
-        let here : AreDelaysText q.netlist bytes' d = subst (λ b. AreDelaysText q.netlist b d) (given ∙ sym given') (subst (λ n. AreDelaysText n bytes d) same said) in
-        let one : d ≡ d' = here.stated ∙ sym said'.stated in
-        one_words_reply d' words vcd (subst (λ x. IsWordsReply (Some files) p x words vcd status text) one reply) reply'
+    one_delays_reply delays words vcd {status} {other} {text} {line} one two =
+        IsReadReply-alike (AreRefusedDelays q.netlist) (AreDelaysText q.netlist) (λ d. IsWordsReply (Some files) p d words vcd) SameReply (λ d. IsWordsReply (Some files) q d words vcd)
+        (λ bytes text line none none'. (refl, refused_delays_once q.netlist bytes none none')) (λ bytes text d none said. refused_delays_none q.netlist bytes d none said)
+        (λ bytes d d' said said' status other text line reply reply'.
+            let one : d ≡ d' = said.stated ∙ sym said'.stated in
+            one_words_reply d' words vcd (subst (λ x. IsWordsReply (Some files) p x words vcd status text) one reply) reply')
+        files delays (subst (λ n. IsReadReply (Some files) delays (AreRefusedDelays n) (AreDelaysText n) (λ d. IsWordsReply (Some files) p d words vcd) status text) same one) two
 
 -- the files determine the status and the text
 pub one_sim_reply : (files : Files) (netlist delays words : List ℕ) (vcd : Bool) {status other : ℕ} {text line : List ℕ} → IsSimReply (Some files) netlist delays words vcd status text → IsSimReply (Some files) netlist delays words vcd other line → SameReply status other text line
-one_sim_reply files netlist delays words vcd (no_pipeline bytes given text none) (no_pipeline bytes' given' line none') =
-    (refl, refused_once bytes' (subst (λ b. IsRefusedText b text) (given ∙ sym given') none) none')
-one_sim_reply files netlist delays words vcd (no_pipeline bytes given text none) (piped bytes' given' q is status line reply) =
-    absurd (refused_is_none bytes' q (subst (λ b. IsRefusedText b text) (given ∙ sym given') none) is)
-one_sim_reply files netlist delays words vcd (piped bytes given p is status text reply) (no_pipeline bytes' given' line none) =
-    absurd (refused_is_none bytes' p none (subst (λ b. IsPipelineText b p) (given ∙ sym given') is))
-one_sim_reply files netlist delays words vcd (piped bytes given p is status text reply) (piped bytes' given' q also status' line reply') =
-    let here : IsPipelineText bytes' p = subst (λ b. IsPipelineText b p) (given ∙ sym given') is in
-    let (same, shape) = one_pipeline bytes' p q here also in
-    one_delays_reply p q same here.shape shape files delays words vcd reply reply'
+one_sim_reply files netlist delays words vcd =
+    IsReadReply-alike IsRefusedText IsPipelineText (λ p. IsDelaysReply (Some files) p delays words vcd) SameReply (λ p. IsDelaysReply (Some files) p delays words vcd)
+    (λ bytes text line none none'. (refl, refused_once bytes none none')) (λ bytes text p none is. refused_is_none bytes p none is)
+    (λ bytes p q is also status other text line reply reply'. let (same, shape) = one_pipeline bytes p q is also in one_delays_reply p q same is.shape shape files delays words vcd reply reply')
+    files netlist

@@ -1,8 +1,7 @@
 -- The statuses of failed devices come from failed devices alone.
-use Rattle.ncl_top.proofs.Terms.{Accepted, Answer, Arguments, Bool, CameOut, Circuit, Command, DelaysData, End, Files, Hazard, IsCompileReply, IsDelaysReply, IsDemoReply, IsMatchReply, IsMatched, IsModelsMatched, IsModelsReply, IsReply, IsRunReply, IsSimReply, IsWordsReply, List, Model, NoPipeline, Option, Outcome, Over, PipelineData, Quiet, Ran, Refused, Rose, Says, SinkState, SourceState, Unjudged, answered, arith, check, circuit_of, compile, compiled, cut_short, delayed, demo, end_status, false, matching, modelled, no_delays, no_memory, no_models, no_words, not_understood, piped, ran, read_failed, replied, sim, status_of, subst, sym, too_large, true, whole, ℕ, ◌≡◌, ◌≢◌}
+use Rattle.ncl_top.proofs.Terms.{Accepted, Answer, AreDelaysText, AreModelsText, AreRefusedDelays, AreRefusedModels, AreRefusedWords, AreWordsText, Arguments, Bool, CameOut, Circuit, Command, DelaysData, End, Files, Hazard, IsDelaysReply, IsDemoReply, IsMatched, IsModelsMatched, IsModelsReply, IsPipelineText, IsReadReply, IsReadReply-each, IsRefusedText, IsReply, IsRunReply, IsWordsReply, List, Model, NoPipeline, Option, Outcome, Over, PipelineData, Quiet, Ran, Refused, Rose, Says, SinkState, SourceState, Unjudged, answered, arith, check, circuit_of, compile, compiled, cut_short, demo, end_status, false, length, matching, no_memory, not_understood, read_failed, replied, sim, status_of, subst, sym, too_large, true, whole, ℕ, ◌≡◌, ◌≢◌}
 use Rattle.ncl_top.specs.Demonstrating as demonstrating
 use Rattle.ncl_top.specs.Matching as compares
-use Rattle.ncl_top.specs.Simulating.{no_pipeline}
 
 -- neither that of a source that failed nor that of a sink that did
 abbrev IsOfNoFault : ℕ → Type 0
@@ -18,10 +17,6 @@ of_models : (models : List Model) (merge : Bool) {status : ℕ} {text : List ℕ
 of_models models merge (too_large fault named is) = (λ e. absurd (omega arith), λ e. absurd (omega arith))
 of_models models merge (compiled can n of text written) = (λ e. absurd (omega arith), λ e. absurd (omega arith))
 
-of_compile : (bytes : List ℕ) (merge : Bool) {status : ℕ} {text : List ℕ} → IsCompileReply bytes merge status text → IsOfNoFault status
-of_compile bytes merge (no_models text none) = (λ e. absurd (omega arith), λ e. absurd (omega arith))
-of_compile bytes merge (modelled models said status text reply) = of_models models merge reply
-
 of_end : (end : End) (all : Bool) → IsOfNoFault (end_status end all)
 of_end Quiet true = (λ e. absurd (omega arith), λ e. absurd (omega arith))
 of_end Quiet false = (λ e. absurd (omega arith), λ e. absurd (omega arith))
@@ -31,31 +26,15 @@ of_end Over all = (λ e. absurd (omega arith), λ e. absurd (omega arith))
 of_run : (p : PipelineData) (d : DelaysData) (offered : List (List Bool)) (vcd : Bool) {status : ℕ} {text : List ℕ} → IsRunReply p d offered vcd status text → IsOfNoFault status
 of_run p d offered vcd run = subst IsOfNoFault (sym run.ends) (of_end run.trace.end _)
 
-of_words : (told : Option Files) (p : PipelineData) (d : DelaysData) (words : List ℕ) (vcd : Bool) {status : ℕ} {text : List ℕ} → IsWordsReply told p d words vcd status text → IsOfNoFault status
-of_words told p d words vcd (no_words bytes given text refused) = (λ e. absurd (omega arith), λ e. absurd (omega arith))
-of_words told p d words vcd (ran bytes given offered are status text run) = of_run p d offered vcd run
-
-of_delays : (told : Option Files) (p : PipelineData) (delays words : List ℕ) (vcd : Bool) {status : ℕ} {text : List ℕ} → IsDelaysReply told p delays words vcd status text → IsOfNoFault status
-of_delays told p delays words vcd (no_delays bytes given text refused) = (λ e. absurd (omega arith), λ e. absurd (omega arith))
-of_delays told p delays words vcd (delayed bytes given d are status text reply) = of_words told p d words vcd reply
-
-of_sim : (told : Option Files) (netlist delays words : List ℕ) (vcd : Bool) {status : ℕ} {text : List ℕ} → IsSimReply told netlist delays words vcd status text → IsOfNoFault status
-of_sim told netlist delays words vcd (no_pipeline bytes given text refused) = (λ e. absurd (omega arith), λ e. absurd (omega arith))
-of_sim told netlist delays words vcd (piped bytes given p is status text reply) = of_delays told p delays words vcd reply
-
 of_matched : (c : Circuit) (models : List Model) (limit : ℕ) {status : ℕ} {text : List ℕ} → IsMatched c models limit status text → IsOfNoFault status
 of_matched c models limit (compares.widths is) = (λ e. absurd (omega arith), λ e. absurd (omega arith))
 of_matched c models limit (compares.full output is) = (λ e. absurd (omega arith), λ e. absurd (omega arith))
 of_matched c models limit (compares.differs argument output is) = (λ e. absurd (omega arith), λ e. absurd (omega arith))
 of_matched c models limit (compares.same is) = (λ e. absurd (omega arith), λ e. absurd (omega arith))
 
-of_compared : (told : Option Files) (p : PipelineData) (blif : List ℕ) (limit : ℕ) {status : ℕ} {text : List ℕ} → IsModelsMatched told p blif limit status text → IsOfNoFault status
-of_compared told p blif limit (compares.no_models bytes given text none) = (λ e. absurd (omega arith), λ e. absurd (omega arith))
-of_compared told p blif limit (compares.compared bytes given models said status text reply) = of_matched (circuit_of p) models limit reply
-
-of_match : (told : Option Files) (netlist blif : List ℕ) (limit : ℕ) {status : ℕ} {text : List ℕ} → IsMatchReply told netlist blif limit status text → IsOfNoFault status
-of_match told netlist blif limit (compares.no_pipeline bytes given text refused) = (λ e. absurd (omega arith), λ e. absurd (omega arith))
-of_match told netlist blif limit (compares.piped bytes given p is status text reply) = of_compared told p blif limit reply
+-- nor is it that of a file that is refused
+of_read : {A : Type 0} (refuses : List ℕ → List ℕ → Type 0) (says : List ℕ → A → Type 0) (replies : A → ℕ → List ℕ → Type 0) → ((what : A) (status : ℕ) (text : List ℕ) → replies what status text → IsOfNoFault status) → (told : Option Files) (name : List ℕ) {status : ℕ} {text : List ℕ} → IsReadReply told name refuses says replies status text → IsOfNoFault status
+of_read refuses says replies each = IsReadReply-each refuses says replies IsOfNoFault (λ e. absurd (omega arith), λ e. absurd (omega arith)) each
 
 of_demo : (bits : ℕ) {status : ℕ} {text : List ℕ} → IsDemoReply bits status text → IsOfNoFault status
 of_demo bits (demonstrating.shown p made accepted t run) = (λ e. absurd (omega arith), λ e. absurd (omega arith))
@@ -63,9 +42,15 @@ of_demo bits (demonstrating.too_large p made stage limit) = (λ e. absurd (omega
 
 of_reply : (command : Command) (told : Option Files) (status : ℕ) (text : List ℕ) → IsReply command told status text → IsOfNoFault status
 of_reply (check file limit why) told status text reply = subst IsOfNoFault (sym reply.ends) (of_outcome reply.outcome)
-of_reply (compile file merge) told status text reply = of_compile reply.bytes merge reply.reply
-of_reply (sim netlist delays words vcd) told status text reply = of_sim told netlist delays words vcd reply
-of_reply (matching netlist blif limit) told status text reply = of_match told netlist blif limit reply
+of_reply (compile file merge) told status text reply = of_read AreRefusedModels AreModelsText (λ models. IsModelsReply models merge) (λ models status text reply. of_models models merge reply) told file reply
+of_reply (sim netlist delays words vcd) told status text reply =
+    of_read IsRefusedText IsPipelineText (λ p. IsDelaysReply told p delays words vcd)
+    (λ p status text. of_read (AreRefusedDelays p.netlist) (AreDelaysText p.netlist) (λ d. IsWordsReply told p d words vcd)
+    (λ d status text. of_read (AreRefusedWords (length p.inputs)) (AreWordsText (length p.inputs)) (λ offered. IsRunReply p d offered vcd)
+    (λ offered status text reply. of_run p d offered vcd reply) told words) told delays) told netlist reply
+of_reply (matching netlist blif limit) told status text reply =
+    of_read IsRefusedText IsPipelineText (λ p. IsModelsMatched told p blif limit)
+    (λ p status text. of_read AreRefusedModels AreModelsText (λ models. IsMatched (circuit_of p) models limit) (λ models status text reply. of_matched (circuit_of p) models limit reply) told blif) told netlist reply
 of_reply (demo bits) told status text reply = of_demo bits reply
 
 -- what is answered where nothing fails has no such status

@@ -84,11 +84,12 @@ pub use Rattle.ncl_netlist.specs.declared.ids.NetId.{NetId}
 pub use Rattle.ncl_netlist.specs.declared.parts.PartCell.{PartCell}
 pub use Rattle.ncl_reader.proofs.GraphicNames.{graphic_more, graphic_names, graphic_word}
 pub use Rattle.ncl_reader.specs.GraphicNames.{HasGraphicNames}
-pub use Rattle.ncl_reply.proofs.Refusals.{IfErr-long, Refuses-weaker, Replies-from, Replies-long, Replies-told}
+pub use Rattle.ncl_reply.proofs.Reading.{IsReadReply-alike, IsReadReply-each, IsReadReply-refused, IsReadReply-said}
+pub use Rattle.ncl_reply.proofs.Refusals.{IfErr-long, Refuses-weaker, Replies-long, Replies-told}
 pub use Rattle.ncl_reply.proofs.Statuses.{accepted_by_status, refused_by_status}
 pub use Rattle.ncl_reply.specs.Devices.{CameOut, SinkState, SourceState, cut_short, whole}
-pub use Rattle.ncl_reply.specs.Given.{ComesFrom, IsGiven}
-pub use Rattle.ncl_reply.specs.Replies.{Gives, Refuses, Replies, fault_of}
+pub use Rattle.ncl_reply.specs.Given.{ComesFrom}
+pub use Rattle.ncl_reply.specs.Replies.{Gives, IsReadReply, Refuses, Replies, fault_of, no_reading, reading}
 pub use Rattle.ncl_reply.specs.Status.{status_of}
 pub use Rattle.ncl_reply.specs.declared.fault.Fault.{Fault}
 pub use Rattle.ncl_reply.specs.declared.reply.Reply.{Reply}
@@ -120,12 +121,12 @@ pub use Rattle.ncl_sim.specs.TimedRun.{DeliversAll, IsTimedRun, TraceData, words
 pub use Rattle.ncl_sim.specs.declared.trace.End.{End}
 pub use Rattle.ncl_sim.specs.declared.trace.End.TheVariants.{Hazard, Over, Quiet}
 pub use Rattle.ncl_token.specs.Bytes.{begins_word, continues_word, is_graphic}
-pub use Rattle.ncl_top.specs.Answer.{AcceptsWhatWorks, Answer, AnswersExactly, AnswersUnlessFaults, CompilesWhatWorks, HaveOneFunction, IsCompiledFile, IsFileReply, IsMergedText, IsReply, MatchesWhatIsSame, Ran, RefusesWhatIsWrong, Says, SimulatesWhatWorks, WorksAndIsAccepted, answered, arguments_determine_status, arguments_determine_text, determines_status, determines_text, no_memory, not_understood, read_failed, replied}
+pub use Rattle.ncl_top.specs.Answer.{AcceptsWhatWorks, Answer, AnswersExactly, AnswersUnlessFaults, CompilesWhatWorks, HaveOneFunction, IsFileReply, IsMergedText, IsReply, MatchesWhatIsSame, Ran, RefusesWhatIsWrong, Says, SimulatesWhatWorks, WorksAndIsAccepted, answered, arguments_determine_status, arguments_determine_text, determines_status, determines_text, no_memory, not_understood, read_failed, replied}
 pub use Rattle.ncl_top.specs.Answered.{IsAnswered}
-pub use Rattle.ncl_top.specs.Compiling.{AreModelsText, AreRefusedModels, IsCompileReply, IsCompiledText, IsModelsReply, compiled, merged, modelled, no_models, plain, too_large, too_long, unread}
+pub use Rattle.ncl_top.specs.Compiling.{AreModelsText, AreRefusedModels, IsCompiledFile, IsCompiledText, IsModelsReply, compiled, merged, plain, too_large, too_long, unread}
 pub use Rattle.ncl_top.specs.Demonstrating.{IsDemoNetlist, IsDemoPipeline, IsDemoReply, IsDemoRun, IsUnit, shown}
-pub use Rattle.ncl_top.specs.Matching.{IsMatchReply, IsMatched, IsModelsMatched, compared, differ_line, differs, full, limit_line, no_pipeline, same, widths, widths_line}
-pub use Rattle.ncl_top.specs.Simulating.{AreDelaysText, AreRefusedDelays, AreRefusedWords, AreWordsText, IsDelaysReply, IsRunReply, IsSimReply, IsWordsReply, broken_delays, broken_words, delayed, end_status, long_delays, long_words, no_delays, no_words, piped, ran, run_status, run_text}
+pub use Rattle.ncl_top.specs.Matching.{IsMatchReply, IsMatched, IsModelsMatched, differ_line, differs, full, limit_line, same, widths, widths_line}
+pub use Rattle.ncl_top.specs.Simulating.{AreDelaysText, AreRefusedDelays, AreRefusedWords, AreWordsText, IsDelaysReply, IsRunReply, IsSimReply, IsWordsReply, broken_delays, broken_words, end_status, long_delays, long_words, run_status, run_text}
 pub use Rattle.ncl_vcd.proofs.SameDumps.{same_dump}
 pub use Rattle.ncl_verdict.proofs.Accepting.{sound_verdict}
 pub use Rattle.ncl_verdict.proofs.Sound.{judgement-sound}

@@ -1,5 +1,6 @@
--- What `compile` replies to the bytes of a file.
-use Rattle.std.specs.Prelude.{◌≡◌, ◌≢◌, ℕ, ◌<◌, ◌≤◌, Bool, true, false, List, length, codes}
+-- What `compile` replies to a file.
+use Rattle.std.specs.Prelude.{◌≡◌, ◌≢◌, ℕ, ◌<◌, ◌≤◌, Bool, true, false, List, length, Option, codes}
+use Rattle.ncl_base.specs.Files.{Files}
 use Rattle.ncl_base.specs.declared.source.TheConstants.{MOST_BYTES}
 use Rattle.ncl_blif.specs.declared.fault.BlifFault.{BlifFault}
 use Rattle.ncl_blif.specs.declared.model.Model.{Model}
@@ -16,6 +17,7 @@ use Rattle.ncl_network.specs.Size.{CanBeCompiled}
 use Rattle.ncl_compile.specs.TooLarge.{IsCompileFault}
 use Rattle.ncl_compile.specs.Compiled.{Compiled}
 use Rattle.ncl_merge.specs.Merged.{Merged}
+use Rattle.ncl_reply.specs.Replies.{IsReadReply}
 
 -- the bytes say these models
 pub record AreModelsText (bytes : List ℕ) (models : List Model) : Type 0 where
@@ -44,9 +46,6 @@ pub data IsModelsReply (models : List Model) (merge : Bool) : ℕ → List ℕ �
   -- a netlist is compiled from them, and this is written of it
   compiled : CanBeCompiled models → (n : NetlistData) → Compiled models n → (text : List ℕ) → IsCompiledText models n merge text → IsModelsReply models merge 0 text
 
--- what `compile` replies to the bytes of a file
-pub data IsCompileReply (bytes : List ℕ) (merge : Bool) : ℕ → List ℕ → Type 0 where
-  -- they say no models
-  no_models : (text : List ℕ) → AreRefusedModels bytes text → IsCompileReply bytes merge 3 text
-  -- they say models, and this is the reply to them
-  modelled : (models : List Model) → AreModelsText bytes models → (status : ℕ) (text : List ℕ) → IsModelsReply models merge status text → IsCompileReply bytes merge status text
+-- what `compile` replies to a file, where gates are merged or not
+abbrev pub IsCompiledFile : Option Files → List ℕ → Bool → ℕ → List ℕ → Type 0
+IsCompiledFile told file merge = IsReadReply told file AreRefusedModels AreModelsText (λ models. IsModelsReply models merge)

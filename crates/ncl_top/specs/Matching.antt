@@ -1,4 +1,4 @@
--- What `match` replies to the bytes of a netlist and of models.
+-- What `match` replies to the files of a netlist and of models.
 use Rattle.std.specs.Prelude.{ℕ, List, ◌++◌, Bool, length, Option, Ok, Err, codes, decimal}
 use Rattle.ncl_base.specs.Files.{Files}
 use Rattle.ncl_base.specs.Words.{text_of}
@@ -11,7 +11,7 @@ use Rattle.ncl_match.specs.declared.answer.Compared.TheVariants.{Same, Differ, W
 use Rattle.ncl_match.specs.declared.answer.CompareFault.TheVariants.{Full}
 use Rattle.ncl_lines.specs.Line.{line}
 use Rattle.ncl_check.specs.Text.{IsPipelineText, IsRefusedText}
-use Rattle.ncl_reply.specs.Given.{IsGiven}
+use Rattle.ncl_reply.specs.Replies.{IsReadReply}
 use Rattle.ncl_top.specs.Compiling.{AreModelsText, AreRefusedModels}
 
 -- the line that tells how many bits the words of the netlist and of the models have, at the inputs and at the outputs
@@ -39,14 +39,10 @@ pub data IsMatched (c : Circuit) (models : List Model) (limit : ℕ) : ℕ → L
   -- they have one function
   same : IsAnswer c models limit (Ok Same) → IsMatched c models limit 0 (line (codes "same"))
 
--- what is replied to the models in a file, where the pipeline is there: why they are refused, or the comparison with them
-pub data IsModelsMatched (told : Option Files) (p : PipelineData) (blif : List ℕ) (limit : ℕ) : ℕ → List ℕ → Type 0 where
-  no_models : (bytes : List ℕ) → IsGiven told blif bytes → (text : List ℕ) → AreRefusedModels bytes text → IsModelsMatched told p blif limit 3 text
-  compared : (bytes : List ℕ) → IsGiven told blif bytes → (models : List Model) → AreModelsText bytes models
-      → (status : ℕ) (text : List ℕ) → IsMatched (circuit_of p) models limit status text → IsModelsMatched told p blif limit status text
+-- what is replied to the models in a file, where the pipeline is there
+abbrev pub IsModelsMatched : Option Files → PipelineData → List ℕ → ℕ → ℕ → List ℕ → Type 0
+IsModelsMatched told p blif limit = IsReadReply told blif AreRefusedModels AreModelsText (λ models. IsMatched (circuit_of p) models limit)
 
--- what is replied to the two files: why the netlist is no pipeline, or what the models make of it
-pub data IsMatchReply (told : Option Files) (netlist blif : List ℕ) (limit : ℕ) : ℕ → List ℕ → Type 0 where
-  no_pipeline : (bytes : List ℕ) → IsGiven told netlist bytes → (text : List ℕ) → IsRefusedText bytes text → IsMatchReply told netlist blif limit 3 text
-  piped : (bytes : List ℕ) → IsGiven told netlist bytes → (p : PipelineData) → IsPipelineText bytes p
-      → (status : ℕ) (text : List ℕ) → IsModelsMatched told p blif limit status text → IsMatchReply told netlist blif limit status text
+-- what is replied to the two files
+abbrev pub IsMatchReply : Option Files → List ℕ → List ℕ → ℕ → ℕ → List ℕ → Type 0
+IsMatchReply told netlist blif limit = IsReadReply told netlist IsRefusedText IsPipelineText (λ p. IsModelsMatched told p blif limit)

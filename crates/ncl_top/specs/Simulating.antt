@@ -1,4 +1,4 @@
--- What `sim` replies to the bytes of a netlist, of delays and of words.
+-- What `sim` replies to the files of a netlist, of delays and of words.
 use Rattle.std.specs.Prelude.{◌≡◌, ℕ, ◌<◌, ◌≤◌, ◌==◌, Bool, true, false, List, length, map, Option, Some, None, codes}
 use Rattle.ncl_base.specs.Files.{Files}
 use Rattle.ncl_base.specs.Words.{text_of}
@@ -19,7 +19,7 @@ use Rattle.ncl_report.specs.DelayText.{delay_line, words_line}
 use Rattle.ncl_report.specs.TraceText.{trace_lines}
 use Rattle.ncl_vcd.specs.RunDump.{dump_of}
 use Rattle.ncl_check.specs.Text.{IsPipelineText, IsRefusedText}
-use Rattle.ncl_reply.specs.Given.{IsGiven}
+use Rattle.ncl_reply.specs.Replies.{IsReadReply}
 
 -- the bytes state these delays for the cells of the netlist, and for the source and the sink
 pub record AreDelaysText (n : NetlistData) (bytes : List ℕ) (d : DelaysData) : Type 0 where
@@ -68,21 +68,14 @@ pub record IsRunReply (p : PipelineData) (d : DelaysData) (offered : List (List 
   pub ends : status ≡ run_status p trace offered
   pub told : text ≡ run_text vcd p trace offered
 
--- what is replied to the words in a file, where the pipeline and the delays are there: why they are refused, or the run
--- over them
-pub data IsWordsReply (told : Option Files) (p : PipelineData) (d : DelaysData) (words : List ℕ) (vcd : Bool) : ℕ → List ℕ → Type 0 where
-  no_words : (bytes : List ℕ) → IsGiven told words bytes → (text : List ℕ) → AreRefusedWords (length p.inputs) bytes text → IsWordsReply told p d words vcd 3 text
-  ran : (bytes : List ℕ) → IsGiven told words bytes → (offered : List (List Bool)) → AreWordsText (length p.inputs) bytes offered
-      → (status : ℕ) (text : List ℕ) → IsRunReply p d offered vcd status text → IsWordsReply told p d words vcd status text
+-- what is replied to the words in a file, where the pipeline and the delays are there
+abbrev pub IsWordsReply : Option Files → PipelineData → DelaysData → List ℕ → Bool → ℕ → List ℕ → Type 0
+IsWordsReply told p d words vcd = IsReadReply told words (AreRefusedWords (length p.inputs)) (AreWordsText (length p.inputs)) (λ offered. IsRunReply p d offered vcd)
 
--- what is replied to the delays in a file, where the pipeline is there: why they are refused, or what the words make of them
-pub data IsDelaysReply (told : Option Files) (p : PipelineData) (delays words : List ℕ) (vcd : Bool) : ℕ → List ℕ → Type 0 where
-  no_delays : (bytes : List ℕ) → IsGiven told delays bytes → (text : List ℕ) → AreRefusedDelays p.netlist bytes text → IsDelaysReply told p delays words vcd 3 text
-  delayed : (bytes : List ℕ) → IsGiven told delays bytes → (d : DelaysData) → AreDelaysText p.netlist bytes d
-      → (status : ℕ) (text : List ℕ) → IsWordsReply told p d words vcd status text → IsDelaysReply told p delays words vcd status text
+-- what is replied to the delays in a file and to those words, where the pipeline is there
+abbrev pub IsDelaysReply : Option Files → PipelineData → List ℕ → List ℕ → Bool → ℕ → List ℕ → Type 0
+IsDelaysReply told p delays words vcd = IsReadReply told delays (AreRefusedDelays p.netlist) (AreDelaysText p.netlist) (λ d. IsWordsReply told p d words vcd)
 
--- what is replied to the three files: why the netlist is no pipeline, or what the delays and the words make of it
-pub data IsSimReply (told : Option Files) (netlist delays words : List ℕ) (vcd : Bool) : ℕ → List ℕ → Type 0 where
-  no_pipeline : (bytes : List ℕ) → IsGiven told netlist bytes → (text : List ℕ) → IsRefusedText bytes text → IsSimReply told netlist delays words vcd 3 text
-  piped : (bytes : List ℕ) → IsGiven told netlist bytes → (p : PipelineData) → IsPipelineText bytes p
-      → (status : ℕ) (text : List ℕ) → IsDelaysReply told p delays words vcd status text → IsSimReply told netlist delays words vcd status text
+-- what is replied to the three files
+abbrev pub IsSimReply : Option Files → List ℕ → List ℕ → List ℕ → Bool → ℕ → List ℕ → Type 0
+IsSimReply told netlist delays words vcd = IsReadReply told netlist IsRefusedText IsPipelineText (λ p. IsDelaysReply told p delays words vcd)

@@ -1,12 +1,12 @@
 //! What each command makes of the files that it names.
 ghost use Rattle.std.specs.Prelude.{◌≤◌, IfErr, IfOk, IsErrOf, IsTrue};
 ghost use Rattle.ncl_base.specs.Files.{Rose};
-ghost use Rattle.ncl_top.specs.Answer.{IsCompiledFile, IsFileReply};
+ghost use Rattle.ncl_top.specs.Answer.{IsFileReply};
 ghost use Rattle.ncl_reader.specs.GraphicNames.{HasGraphicNames};
 ghost use Rattle.ncl_check.specs.Text.{IsNetlistText, IsRefusedText};
 ghost use Rattle.ncl_reply.specs.Devices.{IsServed};
 ghost use Rattle.ncl_reply.specs.Given.{ComesFrom};
-ghost use Rattle.ncl_top.specs.Compiling.{AreModelsText, AreRefusedModels};
+ghost use Rattle.ncl_top.specs.Compiling.{AreModelsText, AreRefusedModels, IsCompiledFile};
 ghost use Rattle.ncl_top.specs.Matching.{IsMatchReply, IsModelsMatched};
 ghost use Rattle.ncl_reply.specs.Replies.{Refuses, Replies};
 ghost use Rattle.ncl_top.specs.Simulating.{IsDelaysReply, IsSimReply, IsWordsReply};

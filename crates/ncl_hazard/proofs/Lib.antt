@@ -10,6 +10,7 @@ pub mod Handing
 pub mod Way
 pub mod Found
 pub mod OrphanPlaces
+pub mod WordRaised
 pub mod ShownRuns
 pub mod JoinedValues
 pub mod JoinedStage

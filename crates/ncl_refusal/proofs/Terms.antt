@@ -2,7 +2,7 @@
 pub use Rattle.std.proofs.Common.{Bool, List, None, Option, Some, [], ap, arith, drop, false, get_or, if◌then◌else◌, inl, inr, is_some, length, map, not, refl, subst, suc, sym, true, zero, ℕ, ◌&&◌, ◌*◌, ◌++◌, ◌+◌, ◌-◌, ◌<◌, ◌||◌, ◌∙◌, ◌∷◌, ◌≡◌, ◌≢◌, ◌≤◌, ◌⊎◌}
 pub use Rattle.std.proofs.Math.Bool.{not-not}
 pub use Rattle.std.proofs.lemmas.Bool.{and_from, and_parts, and_right, both_ways, cases_Bool, cases_eq, cases_lt, eq-eqb, eqb-true, false_from_ne_true, ne_eqb, not-true, not_from_false, or_from, or_left, or_parts, or_right, true_from_ne_false}
-pub use Rattle.std.proofs.lemmas.List.{append-nil, length-map}
+pub use Rattle.std.proofs.lemmas.List.{length-map}
 pub use Rattle.std.proofs.lemmas.List.Folds.{list_all-map}
 pub use Rattle.std.proofs.lemmas.Option.{get_or_from_slice_get, slice_get-get_or, slice_get_within}
 pub use Rattle.std.proofs.lemmas.Slice.Zip.{AllZip-long}
@@ -34,7 +34,7 @@ pub use Rattle.ncl_gates.specs.declared.cell_kind.CellKind.{CellKind}
 pub use Rattle.ncl_gates.specs.declared.cell_kind.CellKind.TheVariants.{Ack, Gate}
 pub use Rattle.ncl_gates.specs.declared.kind.Kind.{Kind}
 pub use Rattle.ncl_gates.specs.declared.kind.Kind.TheVariants.{Th22}
-pub use Rattle.ncl_hazard.proofs.BankSweeps.{AreRegisters, AreRegistersBut, AreTrees, registers-rise, trees-drive, trees-fall}
+pub use Rattle.ncl_hazard.proofs.BankSweeps.{AreRegisters, AreRegistersBut, AreTrees, in_rail-no_output, in_rail-no_root, in_rail-one, registers-rise, trees-drive, trees-fall}
 pub use Rattle.ncl_hazard.proofs.Found.{bit-within, cells_are, high_in, own_stage, rail_id, register-here, registers_are, registers_but-are, regs, trees_are, word-brought}
 pub use Rattle.ncl_hazard.proofs.Handing.{IsOneRailed, handed_on, high-value, one_railed, value-high, wide-at}
 pub use Rattle.ncl_hazard.proofs.JoinedLaws.{stage-here}
@@ -42,11 +42,11 @@ pub use Rattle.ncl_hazard.proofs.Losing.{happened-after, happened-run, loses-aft
 pub use Rattle.ncl_hazard.proofs.NullReset.{IsEmptied, emptied-at_reset, none-among}
 pub use Rattle.ncl_hazard.proofs.OrphanPlaces.{first-among, first-refused, found-some}
 pub use Rattle.ncl_hazard.proofs.ShownRuns.{explained, ones-before}
-pub use Rattle.ncl_hazard.proofs.SourceSweeps.{raised}
 pub use Rattle.ncl_hazard.proofs.StageSweeps.{AreCellsOf, known_apart, reads, stage-rises}
 pub use Rattle.ncl_hazard.proofs.Sweeps.{fired-at, same-from_still, swept-append, swept-elsewhere, tried-cells}
 pub use Rattle.ncl_hazard.proofs.Tries.{run-append}
 pub use Rattle.ncl_hazard.proofs.Way.{Drive, IsUp, drive-keeps, further, gates, gates_nets, regs_nets, way}
+pub use Rattle.ncl_hazard.proofs.WordRaised.{raised-at_source}
 pub use Rattle.ncl_hazard.specs.Schedule.{acknowledging, chosen, coming, fires, forth, gates_at, gates_of, going, is_cell, lacking, no_cell, raises, reaching, registers_at, registers_but, registers_of, swept}
 pub use Rattle.ncl_hazard.specs.Trying.{HasNoDataBank, Loses, happened, tried, turned}
 pub use Rattle.ncl_hazard.specs.Why.{brings}

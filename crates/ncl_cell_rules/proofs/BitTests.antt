@@ -1,9 +1,9 @@
 -- The register cells behind the pins of an acknowledge cell.
-use Rattle.ncl_cell_rules.proofs.Terms.{A, AcksBank, B, Cell, CellAt, Contains-from_slice_get, IsAck, IsCell, IsDataBehind, IsNetlist, IsOfBank, IsRegisterBehind, List, NetId, NetlistData, OnPin, ReadsOneBit, Some, and_from, ap, arith, both_ways, false, get_or, is_data_register, length, subst, sym, true, ℕ, ◌&&◌, ◌<◌, ◌∙◌, ◌≡◌}
+use Rattle.ncl_cell_rules.proofs.Terms.{A, AcksBank, B, Cell, CellAt, Contains-from_slice_get, IsAck, IsCell, IsDataBehind, IsNetlist, IsOfBank, IsRegisterBehind, List, NetId, NetlistData, OnPin, ReadsData, ReadsNet, ReadsOneBit, Some, and_from, ap, arith, both_ways, cases_lt, false, get_or, inl, inr, is_data_register, length, slice_get-get_or, subst, sym, true, ℕ, ◌&&◌, ◌<◌, ◌∙◌, ◌≡◌, ◌⊎◌}
 use Rattle.ncl_cell_rules.proofs.Drivers.{same_driver, same_place}
 use Rattle.ncl_cell_rules.proofs.OriginLaws.{place_of}
 use Rattle.ncl_cell_rules.proofs.CellTests.{same_net}
-use Rattle.ncl_cell_rules.proofs.PinNumbers.{no_net, ack_on, on_pin_within}
+use Rattle.ncl_cell_rules.proofs.PinNumbers.{no_net, ack_on, ack_pins, on_pin_within}
 
 module _ (n : NetlistData) (is : IsNetlist n) where
   -- one cell stands at a place
@@ -38,6 +38,24 @@ module _ (n : NetlistData) (is : IsNetlist n) where
     pub acks_by_behind : (place request : ℕ) → IsRegisterBehind n (get_or pins 0 no_net).0 place request → AcksBank n request c
     acks_by_behind place request behind =
         (in_c, is_ack, (behind.cell, of_bank_behind _ place request behind, subst (OnPin c A) (sym behind.out) (ack_on n is c in_c 0 pins are is_ack (omega arith))))
+
+    -- what such a cell reads that is reset to 1
+    pub data_by_behind : (pin : ℕ) → pin < 2 → IsDataBehind n (get_or pins pin no_net).0 → ReadsData n c
+    data_by_behind pin few behind =
+        (behind.cell, behind.is_cell, behind.resets_high, subst (ReadsNet c) (sym behind.out) (Contains-from_slice_get c.ins.items pin _ (ack_on n is c in_c pin pins are is_ack few)))
+
+    pub data_read : ReadsData n c → IsDataBehind n (get_or pins 0 no_net).0 ⊎ IsDataBehind n (get_or pins 1 no_net).0
+    data_read (r, in_r, high, (k, lt, at)) =
+        let two = ack_pins n is c in_c is_ack in
+        elim (cases_lt k 1) [ inl zero ↦ inl (here 0 (omega arith) (omega (arith, zero))) | inr more ↦ inr (here 1 (omega arith) (omega (arith, more, lt, two))) ]
+      where
+        here : (pin : ℕ) → pin < 2 → k ≡ pin → IsDataBehind n (get_or pins pin no_net).0
+        here pin few same = record {
+          cell = r;
+          is_cell = in_r;
+          out = same_net c pin r.out.0 _ (subst (λ p. OnPin c p r.out.0) same (slice_get-get_or c.ins.items k (record { 0 = r.out.0 }) lt ∙ ap Some at)) (ack_on n is c in_c pin pins are is_ack few);
+          resets_high = high;
+        }
 
   -- where it is reset to 1 such a cell is behind the net
   pub data_behind : (net place request : ℕ) (behind : IsRegisterBehind n net place request) → is_data_register behind.cell.kind ≡ true → IsDataBehind n net

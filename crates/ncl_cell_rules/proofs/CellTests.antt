@@ -1,6 +1,6 @@
 -- Tests of cells that compute: what holds of each cell of a written netlist that passes a test holds of each
 -- cell that is so.
-use Rattle.ncl_cell_rules.proofs.Terms.{Ack, All-contains, All-from_recursion, AllByRecursion, B, Bool, Cell, CellKind, Contains-from_Member, Gate, IsCell, IsDataRegister, IsGate, IsOfBank, IsRegister, Member-filter, Member-from_Contains, NetId, NetlistData, None, OnPin, Option, ReadsNet, Register, RegisterData, Some, and_from, and_parts, ap, bank_test, both_ways, data_is_register, data_test, eq-eqb, eqb-true, false, filter, gate_reads_test, has_net, is_data_register, is_gate, is_register, list_any-from_member, member_from_list_any, nat_eq, refl, register_test, slice_get, subst, true, ℕ, ◌∙◌, ◌≡◌}
+use Rattle.ncl_cell_rules.proofs.Terms.{Ack, All-contains, All-from_recursion, AllByRecursion, B, Bool, Cell, CellKind, Contains-from_Member, Gate, IsCell, IsDataRegister, IsGate, IsOfBank, IsRegister, Kind, Member-filter, Member-from_Contains, NetId, NetlistData, None, OnPin, Option, ReadsNet, Register, RegisterData, Some, and_from, and_parts, ap, bank_test, both_ways, data_is_register, data_test, eq-eqb, eqb-true, false, filter, gate_reads_test, has_net, is_data_register, is_gate, is_register, list_any-from_member, member_from_list_any, nat_eq, refl, register_test, slice_get, subst, true, ℕ, ◌∙◌, ◌≡◌}
 
 -- what holds of each cell that passes a test
 pub each_passing : (n : NetlistData) (test : Cell → Bool) (P : Cell → Type 0) → AllByRecursion P (filter test n.cells) → (c : Cell) → IsCell n c → test c ≡ true → P c
@@ -41,6 +41,13 @@ pub data-from_test : (n : NetlistData) (request : ℕ) (c : Cell) → IsCell n c
 data-from_test n request c in_c passes =
     let (is, on) = and_parts (is_data_register c.kind) _ passes in
     ((in_c, data_is_register c.kind is, net_is request (slice_get c.ins.items B) on), is)
+
+-- what is no gate cell passes no such test
+pub no_gate : (k : CellKind) → ((kind : Kind) → k ≡ Gate kind → ⊥) → is_gate k ≡ false
+no_gate (Gate kind) other = absurd (other kind refl)
+no_gate Register other = refl
+no_gate RegisterData other = refl
+no_gate Ack other = refl
 
 -- a gate cell that reads a net passes its test
 pub gate_reads_passes : (net : ℕ) (c : Cell) → IsGate c → ReadsNet c net → gate_reads_test net c ≡ true

@@ -1,5 +1,5 @@
 -- How many pins have a net, counted pin by pin and cell by cell.
-use Rattle.ncl_cell_rules.proofs.Terms.{Ack, Cell, CellAt, CellKind, Gate, IsNetlist, IsTable, List, NetlistData, Register, RegisterData, ack_pins_of, ap, arith, cases_lt, count_by-le-length, get_or, get_or-replicate, get_or_from_slice_get, get_or_past, inl, inr, length, length-replicate, pins_of, pins_of-few, pins_with, replicate, slice_get_within, sum_by, sum_by-le, sum_by-take-le, sum_by_more, take, take_all, ℕ, ◌*◌, ◌+◌, ◌<◌, ◌∙◌, ◌≡◌, ◌≤◌}
+use Rattle.ncl_cell_rules.proofs.Terms.{Ack, Cell, CellAt, CellKind, Gate, IsNetlist, IsTable, List, NetId, NetlistData, Register, RegisterData, ack_pins_of, ap, arith, cases_lt, count_by-le-length, get_or, get_or-replicate, get_or_from_slice_get, get_or_past, inl, inr, length, length-replicate, pins_of, pins_of-few, pins_with, refl, replicate, slice_get_within, sum_by, sum_by-le, sum_by-take-le, sum_by_more, take, take_all, ℕ, ◌*◌, ◌+◌, ◌<◌, ◌∙◌, ◌≡◌, ◌≤◌}
 use Rattle.ncl_cell_rules.proofs.ReadTables.{has_pin}
 
 -- the counts of the first k cells, of which each adds to a net's count
@@ -37,6 +37,10 @@ module _ (n : NetlistData) (pins : ℕ → Cell → ℕ) where
         omega (arith, now, was, more, here);
   }
 
+  -- a cell that adds nothing changes nothing
+  pub counts_same : (k : ℕ) (c : Cell) (counts : List ℕ) → AreCountsOf n pins k counts → CellAt n k c → ((net : ℕ) → pins net c ≡ 0) → AreCountsOf n pins (k + 1) counts
+  counts_same k c counts so_far at none = counts_more k c counts counts so_far at refl (λ net lt. let nothing = none net in omega (arith, nothing))
+
   pub counts_whole : (k : ℕ) (counts : List ℕ) → length n.cells ≤ k → AreCountsOf n pins k counts → IsTable n 0 (λ net. sum_by (pins net) n.cells) counts
   counts_whole k counts all so_far = record {
     sized = so_far.sized;
@@ -62,6 +66,13 @@ module _ (n : NetlistData) (pins : ℕ → Cell → ℕ) where
           let most = count_by-le-length (has_pin net) c.ins.items in
           let few = pins_of-few c.kind in
           omega (arith, own net c, most, fits, few)
+
+-- a cell that is no acknowledge cell has none
+pub no_ack_pins : (kind : CellKind) → (kind ≡ Ack → ⊥) → (net : ℕ) (ins : List NetId) → ack_pins_of kind net ins ≡ 0
+no_ack_pins Ack other net ins = absurd (other refl)
+no_ack_pins Register other net ins = refl
+no_ack_pins RegisterData other net ins = refl
+no_ack_pins (Gate kind) other net ins = refl
 
 -- no more pins are of acknowledge cells than there are
 pub ack_pins-le : (net : ℕ) (c : Cell) → own_ack_pins net c ≤ own_pins net c

@@ -25,6 +25,10 @@ module _ (n : NetlistData) (is : IsNetlist n) (c : Cell) (in_c : IsCell n c) whe
   pub pins_within : All (λ (net : NetId). net.0 < length n.nets) c.ins.items
   pins_within = (cell_fits n is c in_c).inputs
 
+  -- in a table with an entry for each net, for a list that is read in place of the pins
+  pub pins_fit : (pins : List NetId) → pins ≡ c.ins.items → (size : ℕ) → size ≡ length n.nets → All (λ (net : NetId). net.0 < size) pins
+  pins_fit pins are size sized = subst (λ s. All (λ (net : NetId). net.0 < s) pins) (sym sized) (subst (All (λ (net : NetId). net.0 < length n.nets)) (sym are) pins_within)
+
   pub pin_within : (pin : ℕ) → pin < length c.ins.items → (get_or c.ins.items pin no_net).0 < length n.nets
   pin_within pin lt = (cell_fits n is c in_c).inputs pin no_net lt
 

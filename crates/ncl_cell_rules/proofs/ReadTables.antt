@@ -10,23 +10,27 @@ or-assoc : (a b c : Bool) → (a || (b || c)) ≡ ((a || b) || c)
 or-assoc true b c = refl
 or-assoc false b c = refl
 
+-- one net is marked
+pub marked_one : (flags : List Bool) (pin net : ℕ) → net < length flags → get_or (set flags pin true) net false ≡ (get_or flags net false || nat_eq pin net)
+marked_one flags pin net within =
+    elim (cases_eq net pin) [
+      | inl same ↦
+          ap (λ x. get_or (set flags pin true) x false) same
+          ∙ get_or-set_same flags pin true false (omega (arith, same, within))
+          ∙ sym (or_right (get_or flags net false) _ (eq-eqb pin net (sym same)))
+      | inr other ↦
+          get_or-set_other flags pin net true false other
+          ∙ sym (ap (λ b. get_or flags net false || b) (ne_eqb pin net (λ e. other (sym e))) ∙ or-false (get_or flags net false))
+    ]
+
 -- one pin more is marked
 pub marked_more : (flags : List Bool) (was : Bool) (pins : List NetId) (i : ℕ) (d : NetId) (net : ℕ) → i < length pins → net < length flags
     → get_or flags net false ≡ (was || list_any (has_pin net) (take i pins))
     → get_or (set flags (get_or pins i d).0 true) net false ≡ (was || list_any (has_pin net) (take (i + 1) pins))
 marked_more flags was pins i d net lt within so_far =
-    let more : list_any (has_pin net) (take (i + 1) pins) ≡ (list_any (has_pin net) (take i pins) || nat_eq (get_or pins i d).0 net) = list_any_more (has_pin net) pins i d lt in
-    let whole : (was || list_any (has_pin net) (take (i + 1) pins)) ≡ ((was || list_any (has_pin net) (take i pins)) || nat_eq (get_or pins i d).0 net) =
-    ap (λ b. was || b) more ∙ or-assoc was (list_any (has_pin net) (take i pins)) (nat_eq (get_or pins i d).0 net) in
-    elim (cases_eq net (get_or pins i d).0) [
-      | inl same ↦
-          ap (λ x. get_or (set flags (get_or pins i d).0 true) x false) same
-          ∙ get_or-set_same flags (get_or pins i d).0 true false (omega (arith, same, within))
-          ∙ sym (whole ∙ or_right (was || list_any (has_pin net) (take i pins)) _ (eq-eqb (get_or pins i d).0 net (sym same)))
-      | inr other ↦
-          get_or-set_other flags (get_or pins i d).0 net true false other ∙ so_far
-          ∙ sym (whole ∙ ap (λ b. (was || list_any (has_pin net) (take i pins)) || b) (ne_eqb (get_or pins i d).0 net (λ e. other (sym e))) ∙ or-false (was || list_any (has_pin net) (take i pins)))
-    ]
+    marked_one flags (get_or pins i d).0 net within
+    ∙ ap (λ b. b || nat_eq (get_or pins i d).0 net) so_far
+    ∙ sym (ap (λ b. was || b) (list_any_more (has_pin net) pins i d lt) ∙ or-assoc was (list_any (has_pin net) (take i pins)) (nat_eq (get_or pins i d).0 net))
 
 -- the flags that are known once the first k cells were asked by a test
 pub record AreFlagsOf (n : NetlistData) (test : ℕ → Cell → Bool) (k : ℕ) (flags : List Bool) : Type 0 where
@@ -54,6 +58,10 @@ module _ (n : NetlistData) (test : ℕ → Cell → Bool) where
         ∙ ap (λ b. b || test net c) (so_far.each net lt)
         ∙ sym (list_any_more (test net) n.cells k c within ∙ ap (λ x. list_any (test net) (take k n.cells) || test net x) here);
   }
+
+  -- a cell of which the test never holds changes nothing
+  pub flags_same : (k : ℕ) (c : Cell) (flags : List Bool) → AreFlagsOf n test k flags → CellAt n k c → ((net : ℕ) → test net c ≡ false) → AreFlagsOf n test (k + 1) flags
+  flags_same k c flags so_far at never = flags_more k c flags flags so_far at refl (λ net lt. sym (ap (λ b. get_or flags net false || b) (never net) ∙ or-false (get_or flags net false)))
 
   -- after all cells the table is whole
   pub flags_whole : (k : ℕ) (flags : List Bool) → length n.cells ≤ k → AreFlagsOf n test k flags → IsTable n false (λ net. list_any (test net) n.cells) flags

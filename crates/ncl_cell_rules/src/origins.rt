@@ -6,7 +6,7 @@ ghost use Rattle.ncl_cell_rules.specs.GateGraph.{AreDrivers, driver_at};
 ghost use Rattle.ncl_cell_rules.specs.Sources.{source_at};
 ghost use Rattle.ncl_cell_rules.specs.Tables.{first_at};
 ghost use Rattle.ncl_cell_rules.specs.CellOrder.{IsCellOrder};
-ghost use Rattle.ncl_cell_rules.specs.Origins.{AreOffCycles, AreOrigins, ArePaired, IsCellFault, IsOrderFault};
+ghost use Rattle.ncl_cell_rules.specs.Origins.{AreOffCycles, AreOrigins, ArePaired, ArePortsRead, IsCellFault, IsOrderFault};
 
 use crate::ack_pins::ack_pins;
 use crate::data_banks::data_banks;
@@ -170,6 +170,48 @@ fn tables<'a>(
     })
 }
 
+/// That each input port is read.
+fn check_ports(alloc: Global, netlist: &Netlist) -> Result<(), CellFault>
+    ensures read { OnOk result (ArePortsRead netlist.now) }
+    ensures fault { IfErr result (IsCellFault netlist.now) }
+{
+    match first_unread(netlist, &reads(alloc, netlist)?) {
+        Some(net) => Err(CellFault::UnusedPort(net)),
+        None => Ok(()),
+    }
+}
+
+/// That register and acknowledge cells pair up, which is tried where the first two rules hold.
+fn check_pairs(alloc: Global, netlist: &Netlist, drivers: &[Option<u32>]) -> Result<(), CellFault>
+    requires drivers { AreDrivers netlist.now drivers.now }
+    requires read { ArePortsRead netlist.now }
+    requires off_cycles { AreOffCycles netlist.now }
+    ensures paired { OnOk result (ArePaired netlist.now) }
+    ensures fault { IfErr result (IsCellFault netlist.now) }
+{
+    match first_unpaired(netlist, drivers, &ack_pins(alloc, netlist)?) {
+        Some(cell) => Err(CellFault::Unpaired(cell)),
+        None => Ok(()),
+    }
+}
+
+/// That no cell is mixed and none is loose, which is tried where the first three rules hold.
+fn check_cells(alloc: Global, origins: &Origins) -> Result<(), CellFault>
+    requires read { ArePortsRead origins.now.netlist }
+    requires off_cycles { AreOffCycles origins.now.netlist }
+    requires paired { ArePaired origins.now.netlist }
+    ensures free { OnOk result (IsFree origins.now.netlist) }
+    ensures fault { IfErr result (IsCellFault origins.now.netlist) }
+{
+    if let Some(cell) = first_mixed(origins) {
+        return Err(CellFault::Mixed(cell));
+    }
+    match first_loose(origins, &gate_reads(alloc, origins.netlist())?) {
+        Some(cell) => Err(CellFault::Loose(cell)),
+        None => Ok(()),
+    }
+}
+
 /// What is known of the nets of a netlist that keeps the first five rules of shape, or the first of these rules that
 /// it breaks, at its first port or cell.
 ///
@@ -180,20 +222,11 @@ pub fn find_origins(alloc: Global, netlist: &Netlist) -> Result<Origins<'_>, Cel
     ensures free { OnOk result (IsFree netlist.now) }
     ensures fault { IfErr result (IsCellFault netlist.now) }
 {
-    if let Some(net) = first_unread(netlist, &reads(alloc, netlist)?) {
-        return Err(CellFault::UnusedPort(net));
-    }
+    check_ports(alloc, netlist)?;
     let drivers = drivers(alloc, netlist)?;
     let order = cell_order(alloc, netlist, &drivers)?;
-    if let Some(cell) = first_unpaired(netlist, &drivers, &ack_pins(alloc, netlist)?) {
-        return Err(CellFault::Unpaired(cell));
-    }
+    check_pairs(alloc, netlist, &drivers)?;
     let origins = tables(alloc, netlist, drivers, order)?;
-    if let Some(cell) = first_mixed(&origins) {
-        return Err(CellFault::Mixed(cell));
-    }
-    if let Some(cell) = first_loose(&origins, &gate_reads(alloc, netlist)?) {
-        return Err(CellFault::Loose(cell));
-    }
+    check_cells(alloc, &origins)?;
     Ok(origins)
 }

@@ -1,5 +1,5 @@
 -- What a call of an operation leaves, from what its two calls left.
-use Rattle.ncl_diagram.proofs.Terms.{AddsKeys, Answers, AreAnswers, Engine, Err, Finds, FindsFull, Full, Grown, HasMore, HasNoRoom, HasSlots, IfOk, IsAnswer, IsAnswerKept, IsCanonical, IsErrOf, IsKeyPut, IsSound, Joins, KeepsKeys, Key, Kind, Leads, Least, Leaves, List, MayAdd, MayRun, Memo, Node, None, Ok, Operation, Option, Ref, Result, Runs, Settles, Some, SpaceFault, There, [], ap, arith, branch, false, gate_from, inl, inr, is_below, length, level_of, map, places, set, size_of, slice_get, slice_get-end, slice_get-kept, subst, sym, true, ℕ, ◌++◌, ◌+◌, ◌<◌, ◌∙◌, ◌∷◌, ◌≡◌, ◌≤◌}
+use Rattle.ncl_diagram.proofs.Terms.{AddsKeys, Answers, AreAnswers, Engine, Err, Finds, FindsFull, Full, Grown, HasMore, HasNoRoom, HasSlots, IfOk, IsAnswer, IsAnswerKept, IsCanonical, IsErrOf, IsKeyPut, IsSound, Joins, KeepsKeys, Key, Kind, Leads, Least, Leaves, List, MayAdd, MayRun, Memo, Node, None, Ok, Operation, Option, Ref, Result, Runs, Settles, Some, SpaceFault, There, [], ap, arith, branch, false, gate_from, inl, inr, is_below, length, length_push, level_of, map, places, set, size_of, slice_get, slice_get-end, slice_get-kept, subst, sym, true, ℕ, ◌++◌, ◌+◌, ◌<◌, ◌∙◌, ◌∷◌, ◌≡◌, ◌≤◌}
 use Rattle.ncl_diagram.proofs.Applying.{Higher, Lower, adds_higher, adds_joined, adds_lower, answer_joined, high_fits, higher, higher_there, lacks_higher, lacks_joined, lacks_lower, low_fits, lower, memo_grown, memo_noted, memo_pushed}
 use Rattle.ncl_diagram.proofs.Growth.{grown_along, grown_itself, there_grown}
 use Rattle.ncl_diagram.proofs.Holding.{leaves_applied}
@@ -70,7 +70,15 @@ began {e = e} {key = key} may m at known put none least lows highs low_less high
   high_less = high_less;
 }
 
+-- how many keys there are once one began
+pub keys_begun : (keys more : List Key) (key : Key) → MayAdd keys more key → length keys ≤ length more
+keys_begun keys more key (inl same) = let count = ap length same in omega (arith, count)
+keys_begun keys more key (inr added) = let count = ap length added ∙ length_push keys key in omega (arith, count)
+
 module _ {o : Operation} {e : Engine} {key low high : Key} {m : Memo} {at level : ℕ} (s : Began o e key m at low high level) where
+  pub key_more : length m.keys ≡ length e.memo.keys + 1
+  key_more = ap length s.new.keys_are ∙ length_push e.memo.keys key
+
   memo_begun : AreAnswers o.width o.kind e.nodes m.keys m.found.items
   memo_begun =
       subst (λ (ks : List Key). AreAnswers o.width o.kind e.nodes ks m.found.items) (sym s.new.keys_are)
@@ -140,6 +148,9 @@ module _ {o : Operation} {e b d : Engine} {key low high : Key} {m : Memo} {at le
 
   pub full_high : FindsFull o d high → FindsFull o d key
   full_high f = record { full = f.full; lacks = lacks_higher higher_of f.lacks }
+
+  pub low_there : l.place < length d.nodes + 2
+  low_there = (low_fits higher_of).0
 
   pub low_later : level + 1 ≤ level_of o.width d.nodes l.place
   low_later = (low_fits higher_of).1

@@ -5,13 +5,13 @@ pub use Rattle.std.proofs.lemmas.Bool.{and_parts, cases_lt, lt-ltb, ltb-true, or
 pub use Rattle.std.proofs.lemmas.Bool.Decides.{nat_tests}
 pub use Rattle.std.proofs.lemmas.Cmp.{and_equiv, nat_eq_equiv, on_equiv}
 pub use Rattle.std.proofs.lemmas.Grind.{common_steps}
-pub use Rattle.std.proofs.lemmas.List.{get_or-set_same, length-map, length-take-le}
+pub use Rattle.std.proofs.lemmas.List.{get_or-set_same, length-map, length-take-le, length_push}
 pub use Rattle.std.proofs.lemmas.List.Folds.{list_any-append}
 pub use Rattle.std.proofs.lemmas.List.Quantifiers.{position-Some}
 pub use Rattle.std.proofs.lemmas.Map.Keys.{IsDistinct-push}
 pub use Rattle.std.proofs.lemmas.Map.Made.{length-le_from_is_member}
 pub use Rattle.std.proofs.lemmas.Nat.{and_le_r, and_mask, mul-le, or_shifted, shr_split}
-pub use Rattle.std.proofs.lemmas.Option.{slice_get-get_or, slice_get_cases}
+pub use Rattle.std.proofs.lemmas.Option.{slice_get-get_or, slice_get_cases, slice_get_within}
 pub use Rattle.std.specs.Cmp.{IsEquivalence}
 pub use Rattle.std.specs.Cmp.Lexicographic.{slice_cmp}
 pub use Rattle.std.specs.List.{All, IsDistinct, find, flat_map, list_all, list_any}

@@ -1,5 +1,5 @@
-use Rattle.ncl_diagram.proofs.Terms.{Engine, Err, FindsFull, Full, IsErrAnd, IsErrOf, List, Node, Ok, Ref, Result, Runs, SpaceFault, ap, arith, places, size_of, subst, sym, ◌<◌, ◌∙◌, ◌≡◌}
-use Rattle.ncl_diagram.proofs.RunLaws.{began, after_low, after_high, ran_itself, found_itself, found_kept, ran_begun, found_known, may_low, ran_low, full_low, may_high, ran_high, full_high, low_later, high_later, full_joined, at_within, ran_joined, found_joined}
+use Rattle.ncl_diagram.proofs.Terms.{Engine, Err, FindsFull, Full, IsErrAnd, IsErrOf, List, Node, Ok, Ref, Result, Runs, SpaceFault, ap, arith, length, places, size_of, subst, sym, ◌<◌, ◌∙◌, ◌≡◌}
+use Rattle.ncl_diagram.proofs.RunLaws.{began, after_low, after_high, ran_itself, found_itself, found_kept, ran_begun, found_known, may_low, ran_low, full_low, may_high, ran_high, full_high, low_later, high_later, full_joined, at_within, ran_joined, found_joined, key_more, keys_begun, low_there}
 use Rattle.ncl_diagram.proofs.Stops.{stop_answer}
 use Rattle.ncl_diagram.proofs.operation.Engine.+apply_at.Goals as goal
 
@@ -105,3 +105,68 @@ returns-clause-finds g t c =
     let s = began c.requires c.begin.new.self c.in_ok-at.at c.in_ok-at.known c.in_ok-at.ensures.begins c.in_default-known.is c.split-branches.ensures.least c.split-branches.ensures.low c.split-branches.ensures.high c.split-branches.ensures.low_less c.split-branches.ensures.high_less in
     let new : Engine = record { nodes = c.join.new.nodes; memo = c.note.new.self; answers = c.note-2.new.self } in
     found_joined (after_high (after_low s c.apply_at.ensures.runs) c.in_ok-low.ensures.finds c.apply_at-2.ensures.runs) c.in_ok-high.ensures.finds new c.join.ensures.joins c.in_ok-r.ensures.leads c.note.ensures.keys c.note.ensures.found
+
+pub returns-in_err-at-clause-steps : goal.returns-in_err-at-clause-steps
+returns-in_err-at-clause-steps g t c =
+    let more = keys_begun _ _ _ c.begin.ensures.may in omega (arith, more)
+
+pub returns-in-Some-known-clause-steps : goal.returns-in-Some-known-clause-steps
+returns-in-Some-known-clause-steps g t c =
+    let more = keys_begun _ _ _ c.begin.ensures.may in omega (arith, more)
+
+pub returns-in_err-low-clause-steps : goal.returns-in_err-low-clause-steps
+returns-in_err-low-clause-steps g t c =
+    let s = began c.requires c.begin.new.self c.in_ok-at.at c.in_ok-at.known c.in_ok-at.ensures.begins c.in_default-known.is c.split-branches.ensures.least c.split-branches.ensures.low c.split-branches.ensures.high c.split-branches.ensures.low_less c.split-branches.ensures.high_less in
+    let more = key_more s in
+    omega (arith, more, c.split-branches.ensures.steps, c.apply_at.ensures.steps)
+
+pub returns-in_err-low-clause-came : goal.returns-in_err-low-clause-came
+returns-in_err-low-clause-came g t c =
+    omega (arith, c.split-branches.ensures.steps, c.apply_at.ensures.came)
+
+pub returns-in_err-high-clause-steps : goal.returns-in_err-high-clause-steps
+returns-in_err-high-clause-steps g t c =
+    let s = began c.requires c.begin.new.self c.in_ok-at.at c.in_ok-at.known c.in_ok-at.ensures.begins c.in_default-known.is c.split-branches.ensures.least c.split-branches.ensures.low c.split-branches.ensures.high c.split-branches.ensures.low_less c.split-branches.ensures.high_less in
+    let more = key_more s in
+    omega (arith, more, c.split-branches.ensures.steps, c.apply_at.ensures.steps, c.apply_at-2.ensures.steps)
+
+pub returns-in_err-high-clause-came : goal.returns-in_err-high-clause-came
+returns-in_err-high-clause-came g t c =
+    omega (arith, c.split-branches.ensures.steps, c.apply_at.ensures.came, c.apply_at-2.ensures.came)
+
+pub returns-in_err-r-clause-steps : goal.returns-in_err-r-clause-steps
+returns-in_err-r-clause-steps g t c =
+    let s = began c.requires c.begin.new.self c.in_ok-at.at c.in_ok-at.known c.in_ok-at.ensures.begins c.in_default-known.is c.split-branches.ensures.least c.split-branches.ensures.low c.split-branches.ensures.high c.split-branches.ensures.low_less c.split-branches.ensures.high_less in
+    let more = key_more s in
+    omega (arith, more, c.split-branches.ensures.steps, c.apply_at.ensures.steps, c.apply_at-2.ensures.steps, c.join.ensures.steps)
+
+pub returns-in_err-r-clause-came : goal.returns-in_err-r-clause-came
+returns-in_err-r-clause-came g t c =
+    omega (arith, c.split-branches.ensures.steps, c.apply_at.ensures.came, c.apply_at-2.ensures.came, c.join.ensures.came)
+
+pub returns-clause-steps : goal.returns-clause-steps
+returns-clause-steps g t c =
+    let s = began c.requires c.begin.new.self c.in_ok-at.at c.in_ok-at.known c.in_ok-at.ensures.begins c.in_default-known.is c.split-branches.ensures.least c.split-branches.ensures.low c.split-branches.ensures.high c.split-branches.ensures.low_less c.split-branches.ensures.high_less in
+    let more = key_more s in
+    omega (arith, more, c.split-branches.ensures.steps, c.apply_at.ensures.steps, c.apply_at-2.ensures.steps, c.join.ensures.steps, ap length c.note.ensures.keys)
+
+pub returns-clause-came : goal.returns-clause-came
+returns-clause-came g t c =
+    omega (arith, c.split-branches.ensures.steps, c.apply_at.ensures.came, c.apply_at-2.ensures.came, c.join.ensures.came)
+
+pub join-requires-clause-canonical : goal.join-requires-clause-canonical
+join-requires-clause-canonical g t c = c.apply_at-2.ensures.runs.sound.canonical
+
+pub join-requires-clause-few : goal.join-requires-clause-few
+join-requires-clause-few g t c = c.apply_at-2.ensures.runs.sound.few
+
+pub join-requires-clause-bit : goal.join-requires-clause-bit
+join-requires-clause-bit g t c = c.split-branches.ensures.least.bit
+
+pub join-requires-clause-high : goal.join-requires-clause-high
+join-requires-clause-high g t c = c.in_ok-high.ensures.finds.answer.there
+
+pub join-requires-clause-low : goal.join-requires-clause-low
+join-requires-clause-low g t c =
+    let s = began c.requires c.begin.new.self c.in_ok-at.at c.in_ok-at.known c.in_ok-at.ensures.begins c.in_default-known.is c.split-branches.ensures.least c.split-branches.ensures.low c.split-branches.ensures.high c.split-branches.ensures.low_less c.split-branches.ensures.high_less in
+    low_there (after_high (after_low s c.apply_at.ensures.runs) c.in_ok-low.ensures.finds c.apply_at-2.ensures.runs)

@@ -183,8 +183,8 @@ pub refused-fault : (bytes : List ℕ) (fault : NetFault) → IsRefused bytes fa
 refused-fault bytes Memory is = tt
 refused-fault bytes fault is = is
 
-pub whole-at : (bytes : List ℕ) (at : ℕ) (here : Place) (draft : Draft) (parts : Parts) → here ≡ place.End → LoopAt bytes at here draft → IsSpace (drop at bytes) [] → ((p : Partial) → HoldsAt place.End draft p → SaysAt p parts) → Reads bytes parts
-whole-at bytes at here draft parts is loop space says =
+pub whole-at : (bytes : List ℕ) (at : ℕ) (here : Place) (draft : Draft) → here ≡ place.End → LoopAt bytes at here draft → IsSpace (drop at bytes) [] → (parts : Parts) → ((p : Partial) → HoldsAt place.End draft p → SaysAt p parts) → Reads bytes parts
+whole-at bytes at here draft is loop space parts says =
     let ends = subst (λ h. LoopAt bytes at h draft) is loop in
     let (head, items, same, told) = says ends.kept.stands.tree ends.kept.holds in
     let (derives, unbroken) = stands-whole ends.before ends.kept.stands (length bytes) head items same in

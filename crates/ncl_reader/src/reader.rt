@@ -5,6 +5,8 @@ ghost use Rattle.ncl_netlist.specs.declared.parts.Parts.{Parts};
 ghost use Rattle.ncl_netlist.specs.Names.{AllDiffer};
 ghost use Rattle.ncl_netlist.specs.Parts.{netlist_of, port_names};
 ghost use Rattle.ncl_netlist.specs.Faults.{IsFaultless};
+ghost use Rattle.ncl_reader.specs.Draft.{HoldsAt, SaysAt};
+ghost use Rattle.ncl_reader.specs.Partial.{Partial, start, spelled};
 ghost use Rattle.ncl_reader.specs.Reads.{Reads, IsReadFault, IsNetFault};
 ghost use Rattle.ncl_reader.specs.Faults.{net_fault_of};
 ghost use Rattle.ncl_reader.specs.GraphicNames.{HasGraphicNames};
@@ -61,8 +63,23 @@ fn read_parts(alloc: Global, bytes: &[u8]) -> Result<Parts, NetFault>
     ensures few { IfOk result (λ parts. length parts.ports ≤ length bytes.now + 65536) }
     ensures fault { IfErr result (IsReadFault bytes.now) }
 {
-    let mut tokens = Tokens::new(bytes);
     let mut draft = Draft::new(alloc);
+    read_tokens(alloc, bytes, &mut draft)?;
+    Ok(draft.into_parts(alloc)?)
+}
+
+/// Reads a text to its end into a draft of which nothing was read.
+///
+/// Fails at the first token that breaks, and where memory is refused. Costs as `read_netlist` does.
+fn read_tokens<'a>(alloc: Global, bytes: &'a [u8], draft: &mut Draft<'a>) -> Result<(), NetFault>
+    requires { HoldsAt Place.Module draft.old start }
+    ensures parts { IfOk result (λ u. (parts : Parts)
+        → ((p : Partial) → HoldsAt Place.End draft.new p → SaysAt p parts) → Reads bytes.now parts) }
+    ensures few { IfOk result (λ u. (p : Partial)
+        × HoldsAt Place.End draft.new p × (length (spelled p) ≤ length bytes.now)) }
+    ensures fault { IfErr result (IsReadFault bytes.now) }
+{
+    let mut tokens = Tokens::new(bytes);
     let mut place = Place::Module;
     loop {
         match tokens.next() {
@@ -74,7 +91,7 @@ fn read_parts(alloc: Global, bytes: &[u8]) -> Result<Parts, NetFault>
                 }
             }
             Ok(None) => match place {
-                Place::End => return Ok(draft.into_parts(alloc)?),
+                Place::End => return Ok(()),
                 _ => return Err(NetFault::Syntax(bytes.len())),
             },
             Err(fault) => return Err(NetFault::Syntax(bad_place(fault))),

@@ -1,54 +1,11 @@
-use Rattle.ncl_reader.proofs.Loop.{arith, Ok, Err, sym, ap, ◌∙◌, subst, some_list, meant, IsFaultAt, Breaks, spelled, HoldsAt, Takes, TakesOrBreaks, holds-place, LoopAt, loop-first, loop-more, loop-broken, loop-bad, loop-short, few_before, read-token, next-space, next-bad, refused-fault, whole-at}
-use Rattle.ncl_reader.specs.declared.place.Place.TheVariants as place
+use Rattle.ncl_reader.proofs.Terms.{arith}
 use Rattle.ncl_reader.proofs.reader.read_parts.Goals as goal
 
-pub loop-token-init : goal.loop-token-init
-loop-token-init c =
-    let (tokens, stop, are) = some_list c.args.bytes.now in
-    (c.new-tokens.ensures.bytes, subst (λ p. LoopAt c.args.bytes.now p place.Module c.new-draft.result) (sym c.new-tokens.ensures.place) (loop-first c.args.bytes.now c.new-draft.result tokens stop are c.new-draft.ensures))
+pub returns-clause-parts : goal.returns-clause-parts
+returns-clause-parts c = c.in_ok-read_tokens.ensures.parts _ c.in_ok-into_parts.ensures.says
 
-pub loop-token-preserved : goal.loop-token-preserved
-loop-token-preserved c =
-    let bytes = c.args.bytes.now in
-    let token = c.in-Ok-Some.token in
-    let loop = c.loop-token.invariant.1 in
-    let here = read-token bytes c.loop-token.tokens c.next.new.self c.next.result token (meant c.lexeme_of-lexeme.result) c.loop-token.invariant.0 c.next.ensures.answer c.next.ensures.after (c.in-Ok-Some.is ∙ ap Ok c.in-Ok-Some.field-0-is) c.lexeme_of-lexeme.ensures in
-    let takes : Takes loop.kept.stands.tree (meant c.lexeme_of-lexeme.result) c.in-Some.after c.step.new.self = subst (λ o. TakesOrBreaks c.loop-token.place loop.kept.stands.tree (meant c.lexeme_of-lexeme.result) o c.step.new.self) c.in-Some.is (c.in_ok-after-in-Ok-Some.ensures loop.kept.stands.tree loop.kept.holds) in
-    (here.text, subst (λ p. LoopAt bytes p c.in-Some.after c.step.new.self) (sym here.behind) (loop-more bytes c.loop-token.tokens.place c.loop-token.place c.loop-token.draft loop c.in-Some.after c.step.new.self token here.next (subst (λ u. Takes loop.kept.stands.tree u c.in-Some.after c.step.new.self) here.lexeme takes)))
+pub returns-clause-differ : goal.returns-clause-differ
+returns-clause-differ c = let (p, holds, few) = c.in_ok-read_tokens.ensures.few in c.in_ok-into_parts.ensures.differ p holds
 
-pub returns-in-None-clause-fault : goal.returns-in-None-clause-fault
-returns-in-None-clause-fault c =
-    let bytes = c.args.bytes.now in
-    let token = c.in-Ok-Some.token in
-    let loop = c.loop-token.invariant.1 in
-    let here = read-token bytes c.loop-token.tokens c.next.new.self c.next.result token (meant c.lexeme_of-lexeme.result) c.loop-token.invariant.0 c.next.ensures.answer c.next.ensures.after (c.in-Ok-Some.is ∙ ap Ok c.in-Ok-Some.field-0-is) c.lexeme_of-lexeme.ensures in
-    let (breaks, holds) = subst (λ o. TakesOrBreaks c.loop-token.place loop.kept.stands.tree (meant c.lexeme_of-lexeme.result) o c.step.new.self) c.in-None.is (c.in_ok-after-in-Ok-Some.ensures loop.kept.stands.tree loop.kept.holds) in
-    refused-fault bytes c.refusal.result (loop-broken bytes c.loop-token.tokens.place c.loop-token.place c.loop-token.draft loop token c.refusal.result here.next (subst (Breaks (spelled loop.kept.stands.tree)) here.lexeme breaks)
-    (subst (λ u. IsFaultAt (spelled loop.kept.stands.tree) (record { lexeme = u; place = token.start }) c.refusal.result) here.lexeme (c.refusal.ensures loop.kept.stands.tree holds breaks)))
-
-pub returns-in-End-clause-parts : goal.returns-in-End-clause-parts
-returns-in-End-clause-parts c =
-    let space = next-space c.args.bytes.now c.loop-token.tokens.bytes c.loop-token.tokens.place c.next.result c.loop-token.invariant.0 c.next.ensures.answer (c.in-Ok-None.is ∙ ap Ok c.in-Ok-None.field-0-is) in
-    whole-at c.args.bytes.now c.loop-token.tokens.place c.loop-token.place c.loop-token.draft _ c.in-End.is c.loop-token.invariant.1 space c.in_ok-into_parts-in-End.ensures.says
-
-pub returns-in-End-clause-differ : goal.returns-in-End-clause-differ
-returns-in-End-clause-differ c =
-    let kept = c.loop-token.invariant.1.kept in
-    c.in_ok-into_parts-in-End.ensures.differ kept.stands.tree (subst (λ at. HoldsAt at c.loop-token.draft kept.stands.tree) c.in-End.is kept.holds)
-
-pub returns-in_default-clause-fault : goal.returns-in_default-clause-fault
-returns-in_default-clause-fault c =
-    let loop = c.loop-token.invariant.1 in
-    let space = next-space c.args.bytes.now c.loop-token.tokens.bytes c.loop-token.tokens.place c.next.result c.loop-token.invariant.0 c.next.ensures.answer (c.in-Ok-None.is ∙ ap Ok c.in-Ok-None.field-0-is) in
-    loop-short c.args.bytes.now c.loop-token.tokens.place c.loop-token.place c.loop-token.draft loop space (λ e. c.in_default.not-End (sym (holds-place c.loop-token.place c.loop-token.draft loop.kept.stands.tree loop.kept.holds) ∙ e))
-
-pub returns-in-Err-clause-fault : goal.returns-in-Err-clause-fault
-returns-in-Err-clause-fault c = loop-bad c.args.bytes.now c.loop-token.tokens.place c.loop-token.place c.loop-token.draft c.loop-token.invariant.1 c.bad_place.result (next-bad c.args.bytes.now c.loop-token.tokens.bytes c.loop-token.tokens.place c.next.result c.loop-token.invariant.0 c.next.ensures.answer c.bad_place.result (c.in-Err.is ∙ ap Err c.bad_place.ensures))
-
-pub returns-in-End-clause-few : goal.returns-in-End-clause-few
-returns-in-End-clause-few c =
-    let loop = c.loop-token.invariant.1 in
-    let kept = loop.kept in
-    let ports = c.in_ok-into_parts-in-End.ensures.few kept.stands.tree (subst (λ at. HoldsAt at c.loop-token.draft kept.stands.tree) c.in-End.is kept.holds) in
-    let tokens = few_before c.args.bytes.now c.loop-token.tokens.place c.loop-token.place c.loop-token.draft loop in
-    omega (arith, ports, tokens)
+pub returns-clause-few : goal.returns-clause-few
+returns-clause-few c = let (p, holds, few) = c.in_ok-read_tokens.ensures.few in omega (arith, few, c.in_ok-into_parts.ensures.few p holds)

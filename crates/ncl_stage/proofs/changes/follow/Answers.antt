@@ -221,3 +221,20 @@ push-requires g c = λ k d lt.
     let within : get_or c.readers.result.now k d < length c.args.base.now.wiring.nets =
     subst (λ (x : WiringData). get_or c.readers.result.now k d < length x.nets) c.wiring.ensures (c.readers.ensures.within k d lt) in
     omega (arith, within, c.loop-place.invariant.waiting.many, ap length c.in_ok-pass.ensures.waiting)
+
+pub returns-in_err-pass-clause-kept : goal.returns-in_err-pass-clause-kept
+returns-in_err-pass-clause-kept g c = c.loop-place.invariant.making.kept
+
+pub returns-in_err-pass-2-clause-kept : goal.returns-in_err-pass-2-clause-kept
+returns-in_err-pass-2-clause-kept g c = c.loop-place.invariant.making.kept
+
+pub returns-clause-kept : goal.returns-clause-kept
+returns-clause-kept g c = c.loop-place.invariant.making.kept
+
+pub loop-place-smaller : goal.loop-place-smaller
+loop-place-smaller g c =
+    let waits = c.loop-place.invariant.waiting.many in
+    let refs = c.loop-place.changes.refs.items in
+    let passed = ap length c.in_ok-pass.ensures.refs ∙ length-append refs (take (c.in-Some.place - length refs) (drop (length refs) c.refs-all.result.now)) in
+    let pushed = ap length c.in_ok-push.ensures.refs ∙ length-append c.pass.new.self.refs.items (c.in_ok-made.made ∷ []) in
+    omega (arith, passed, pushed, waits, c.in-Some.ensures, c.len.ensures, ap length c.as_slice.ensures.value)

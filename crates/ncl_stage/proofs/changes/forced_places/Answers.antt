@@ -96,3 +96,18 @@ returns-in-Some-clause-within c =
       subst (λ n. n < length nets) (sym c.place_of-zero.ensures) (stands pair.zero.0 (rails-named s (nets_of s.inputs s.cells) refl s.inputs refl c.in-Bit.bit pair lt at).0),
       subst (λ n. n < length nets) (sym c.place_of-one.ensures) (stands pair.one.0 (rails-named s (nets_of s.inputs s.cells) refl s.inputs refl c.in-Bit.bit pair lt at).1),
     )
+
+pub returns-in-Base-clause-others : goal.returns-in-Base-clause-others
+returns-in-Base-clause-others c = λ place lt apart again. ap (λ v. kept_low c.args.stage.now v (net_at c.args.stage.now place)) c.in-Base.is
+
+pub returns-in-Some-get-clause-within : goal.returns-in-Some-get-clause-within
+returns-in-Some-get-clause-within c =
+    let s : StageData = c.args.stage.now in
+    let i = c.in-Cell.cell in
+    let cells : c.items-in-Cell.result.now ≡ s.cells = c.items-in-Cell.ensures ∙ ap (λ (t : StageData). t.cells) c.stage.view_is in
+    let cell : StageCell = c.in-Some-get.cell.now in
+    let lt : i < length s.cells = subst (λ xs. i < length xs) cells c.in-Some-get.ensures.lookup.3.0 in
+    let at : cell ≡ get_or s.cells i cell = c.in-Some-get.ensures.lookup.1 ∙ ap (λ xs. get_or xs i cell) cells in
+    let known = Contains-from_Member cell.out.0 (Member-append_right (rail_nets s.inputs) cell.out.0 (Member-map out_of cell (subst (λ (x : StageCell). Member x s.cells) (sym at) (Member-get_or s.cells i cell lt)))) in
+    let own = subst (λ n. n < length c.args.wiring.now.nets) (sym c.place_of-place.ensures) (subst (λ ns. place_in ns cell.out.0 < length ns) (sym c.requires.nets) (place-within s cell.out.0 known)) in
+    (own, own)

@@ -1,4 +1,4 @@
-use Rattle.ncl_stage.proofs.Terms.{Base, HaveTables, IfOk, IsLive, IsUnreached, Makes, MarksChanges, Member-get_or, Ref, SpaceData, StageData, WiringData, [], ap, constant_table, false, fits, get_or, kept_low, makes-live, net_at, net_table_by, net_tables_by, nets_of, subst, sym, take, true, ◌∙◌, ◌∷◌, ◌≡◌}
+use Rattle.ncl_stage.proofs.Terms.{Base, HaveTables, IfOk, IsLive, IsUnreached, Makes, MarksChanges, Member-get_or, Ref, SpaceData, StageData, WiringData, [], ap, constant_table, false, fits, get_or, keeps_all, kept_low, makes-live, net_at, net_table_by, net_tables_by, nets_of, subst, sym, take, true, ◌∙◌, ◌∷◌, ◌≡◌}
 use Rattle.ncl_stage.proofs.ChangedLaws.{value-at, values-width}
 use Rattle.ncl_stage.proofs.NetLaws.{low-net}
 use Rattle.ncl_stage.proofs.changes.ref_from.Goals as goal
@@ -42,3 +42,9 @@ returns-clause-made g c =
 
 pub net_ref-requires-clause-width : goal.net_ref-requires-clause-width
 net_ref-requires-clause-width g c = (values-width (g.P.Space.meaning c.args.space.now) c.args.stage.now Base c.args.base.now c.facts-2.ensures c.facts.ensures c.requires.base)
+
+pub returns-then-is_kept_low-clause-kept : goal.returns-then-is_kept_low-clause-kept
+returns-then-is_kept_low-clause-kept g c = keeps_all (g.P.Space.meaning c.args.space.now) c.facts-2.ensures
+
+pub returns-clause-kept : goal.returns-clause-kept
+returns-clause-kept g c = keeps_all (g.P.Space.meaning c.args.space.now) c.facts-2.ensures

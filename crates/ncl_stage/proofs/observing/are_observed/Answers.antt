@@ -1,4 +1,4 @@
-use Rattle.ncl_stage.proofs.Terms.{All, Base, Contains, Contains-from_Member, IsAlwaysObserved, IsObserved, IsShown, SpaceData, StageData, WiringData, ap, arith, below_more, false, get_or, get_or_default, have-kept, have-length, inl, keeps_along, length, length-map, low_table_by, low_tables_by, net_at, nets_of, subst, sym, true, val, val-within, ℕ, ◌<◌, ◌∙◌, ◌≡◌}
+use Rattle.ncl_stage.proofs.Terms.{All, Base, Contains, Contains-from_Member, HaveTables, IsAlwaysObserved, IsObserved, IsShown, SpaceData, StageData, WiringData, ap, arith, below_more, false, get_or, get_or_default, have-kept, have-length, inl, keeps_along, length, length-map, low_table_by, low_tables_by, net_at, nets_of, subst, sym, true, val, val-within, ℕ, ◌<◌, ◌∙◌, ◌≡◌}
 use Rattle.ncl_stage.specs.BitOrder.{place_in}
 use Rattle.ncl_stage.proofs.ChangedLaws.{values-kept}
 use Rattle.ncl_stage.proofs.ObservingLaws.{shown-net}
@@ -56,3 +56,24 @@ returns-clause-observed g c = λ e word same net high.
     let place : ℕ = place_in (nets_of s.inputs s.cells) net in
     let before : place < c.loop-place.place = omega (arith, at_net.0, c.loop-place-test.false, c.len-place-end.ensures, lows, nets) in
     subst (IsObserved s (val s word Base)) (at_net.1 0) (c.loop-place.invariant.seen place before word same (ap (val s word Base) (at_net.1 0) ∙ high))
+
+pub index-requires : goal.index-requires
+index-requires g c = omega (arith, c.loop-place-test.true, c.len-place-end.ensures, c.len.ensures, c.in_ok-shown.ensures.many)
+
+pub is_observed-requires-clause-lows : goal.is_observed-requires-clause-lows
+is_observed-requires-clause-lows g c = subst (λ refs. HaveTables (g.P.Space.meaning c.loop-place.space) refs (low_tables_by c.args.base.now.wiring.order c.args.stage.now)) (sym c.as_slice.ensures.value) c.loop-place.invariant.lows
+
+pub is_observed-requires-clause-place : goal.is_observed-requires-clause-place
+is_observed-requires-clause-place g c =
+    let s : StageData = c.args.stage.now in
+    let order = c.args.base.now.wiring.order in
+    let lows = have-length (g.P.Space.meaning c.low_refs.new.space) c.in_ok-lows.lows.items (low_tables_by order s) c.in_ok-lows.ensures.made in
+    omega (arith, c.loop-place-test.true, c.len-place-end.ensures, lows, length-map (nets_of s.inputs s.cells) (low_table_by order s))
+
+pub returns-in_err-is_observed-clause-kept : goal.returns-in_err-is_observed-clause-kept
+returns-in_err-is_observed-clause-kept g c =
+    keeps_along (g.P.Space.meaning c.args.space.now) (g.P.Space.meaning c.loop-place.space) (g.P.Space.meaning c.is_observed.new.space) c.loop-place.invariant.kept c.in_err-is_observed.ensures.kept
+
+pub returns-then-not-branch-clause-kept : goal.returns-then-not-branch-clause-kept
+returns-then-not-branch-clause-kept g c =
+    keeps_along (g.P.Space.meaning c.args.space.now) (g.P.Space.meaning c.loop-place.space) (g.P.Space.meaning c.is_observed.new.space) c.loop-place.invariant.kept c.in_ok-is_observed.ensures.kept

@@ -1,4 +1,4 @@
-use Rattle.ncl_stage.proofs.Terms.{AreValues, Base, IsAlwaysObserved, IsLeft, IsLive, IsSpace, IsStage, Keeps, List, Ref, SpaceData, StageData, ValuesData, ap, constant_table, false, from_test, get_or, have-kept, keeps_all, low_tables_by, net_at, subst, sym, ℕ, ◌∙◌, ◌≡◌}
+use Rattle.ncl_stage.proofs.Terms.{AreValues, Base, IsAlwaysObserved, IsLeft, IsLive, IsSpace, IsStage, Keeps, List, Ref, SpaceData, StageData, ValuesData, ap, constant_table, false, from_test, get_or, have-kept, keeps_all, keeps_along, low_tables_by, net_at, subst, sym, ℕ, ◌∙◌, ◌≡◌}
 use Rattle.ncl_stage.proofs.ChangedLaws.{value-at, values-kept, values-width}
 use Rattle.ncl_stage.proofs.ObservingLaws.{left-first, none-left}
 use Rattle.ncl_stage.proofs.observing.is_observed.Goals as goal
@@ -37,3 +37,20 @@ pub returns-clause-observed : goal.returns-clause-observed
 returns-clause-observed g c = λ e.
     observed (g.P.Space.meaning c.args.space.now) (g.P.Space.meaning c.loop-reader.space) c.facts-2.ensures c.loop-reader.invariant.kept c.args.stage.now c.facts.ensures c.args.base.now c.requires.base (net_at c.args.stage.now c.args.place) c.constant-never.result c.loop-reader.left c.constant-never.ensures.live c.constant-never.ensures.table
     c.loop-reader.invariant.left (from_test c.same-2.result c.same-2.ensures e)
+
+pub same-requires-clause-y : goal.same-requires-clause-y
+same-requires-clause-y g c = c.loop-reader.invariant.kept.live c.constant-never.result c.constant-never.ensures.live
+
+pub same-requires-2-clause-y : goal.same-requires-2-clause-y
+same-requires-2-clause-y g c = c.loop-reader.invariant.kept.live c.constant-never.result c.constant-never.ensures.live
+
+pub returns-in_err-left-clause-kept : goal.returns-in_err-left-clause-kept
+returns-in_err-left-clause-kept g c =
+    keeps_along (g.P.Space.meaning c.args.space.now) (g.P.Space.meaning c.loop-reader.space) (g.P.Space.meaning c.left_by.new.space) c.loop-reader.invariant.kept c.in_err-left.ensures.kept
+
+pub loop-reader-preserved : goal.loop-reader-preserved
+loop-reader-preserved g c = record {
+  kept = keeps_along (g.P.Space.meaning c.args.space.now) (g.P.Space.meaning c.loop-reader.space) (g.P.Space.meaning c.left_by.new.space) c.loop-reader.invariant.kept c.in_ok-left.ensures.kept;
+  live = c.in_ok-left.ensures.live;
+  left = c.in_ok-left.ensures.left;
+}

@@ -1,4 +1,4 @@
-use Rattle.ncl_stage.proofs.Terms.{All, Base, IfOk-weaker, IsLeft, IsLive, List, Ref, SpaceData, StageCell, StageData, Th12, [], ap, arith, gate, have-length, keeps_along, length, length-map, low_table_by, low_tables_by, net_at, nets_of, subst, suc, sym, zero, ℕ, ◌*◌, ◌+◌, ◌-◌, ◌<◌, ◌∙◌, ◌∷◌, ◌≡◌}
+use Rattle.ncl_stage.proofs.Terms.{All, Base, IfOk-weaker, IsLeft, IsLive, List, Ref, SpaceData, StageCell, StageData, Th12, [], ap, arith, gate, have-length, keeps_all, keeps_along, length, length-map, low_table_by, low_tables_by, net_at, nets_of, subst, suc, sym, zero, ℕ, ◌*◌, ◌+◌, ◌-◌, ◌<◌, ◌∙◌, ◌∷◌, ◌≡◌}
 use Rattle.ncl_stage.proofs.ChangedLaws.{nets-length, values-width}
 use Rattle.ncl_stage.proofs.ObservingLaws.{left-by}
 use Rattle.ncl_stage.proofs.observing.left_by.Goals as goal
@@ -47,3 +47,13 @@ apply-requires-clause-live g c =
 pub returns-clause-kept : goal.returns-clause-kept
 returns-clause-kept g c =
     keeps_along (g.P.Space.meaning c.args.space.now) (g.P.Space.meaning c.without.new.space) (g.P.Space.meaning c.apply.new.self) c.in_ok-fallen.ensures.kept c.apply.ensures.kept
+
+pub bounds-lows-reader : goal.bounds-lows-reader
+bounds-lows-reader g c =
+    let s : StageData = c.args.stage.now in
+    let order : List ℕ = c.args.base.now.wiring.order in
+    let lows = have-length (g.P.Space.meaning c.args.space.now) c.args.lows.now (low_tables_by order s) c.requires.lows ∙ length-map (nets_of s.inputs s.cells) (low_table_by order s) in
+    omega (arith, lows, c.requires.reader)
+
+pub returns-then-reader-rails-clause-kept : goal.returns-then-reader-rails-clause-kept
+returns-then-reader-rails-clause-kept g c = keeps_all (g.P.Space.meaning c.args.space.now) c.facts-2.ensures

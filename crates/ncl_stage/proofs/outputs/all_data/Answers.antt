@@ -113,3 +113,13 @@ returns g c =
       kept = search rules;
       full = search rules;
     }
+
+pub returns-in_err-data-clause-kept : goal.returns-in_err-data-clause-kept
+returns-in_err-data-clause-kept g c =
+    keeps_along (g.P.Space.meaning c.args.space.now) (g.P.Space.meaning c.net_refs_from.new.space) (g.P.Space.meaning c.data_tables.new.space) c.in_ok-refs.ensures.kept c.in_err-data.ensures.kept
+
+pub returns-in_err-fronts-clause-kept : goal.returns-in_err-fronts-clause-kept
+returns-in_err-fronts-clause-kept g c =
+    let mid : SpaceData = g.P.Space.meaning c.data_tables.new.space in
+    keeps_along (g.P.Space.meaning c.args.space.now) mid (g.P.Space.meaning c.data_fronts.new.space)
+    (keeps_along (g.P.Space.meaning c.args.space.now) (g.P.Space.meaning c.net_refs_from.new.space) mid c.in_ok-refs.ensures.kept c.in_ok-data.ensures.kept) c.in_err-fronts.ensures.kept

@@ -1,4 +1,4 @@
-use Rattle.ncl_stage.proofs.Terms.{All, Bool, Err, IsLive, IsSpace, List, MakesAll, Making, Option, Ref, Some, SpaceData, [], ap, arith, conjunction, front_tables, get_or, get_or-map, handed_on, keeps_along, length, length-map, making-next, making-none, map, option_map, subst, sym, take, take_all, too_much-next, ℕ, ◌+◌, ◌<◌, ◌^◌, ◌∙◌, ◌≡◌, ◌≤◌}
+use Rattle.ncl_stage.proofs.Terms.{All, Bool, Err, IsLive, IsSpace, List, MakesAll, Making, Option, Ref, Some, SpaceData, [], ap, arith, conjunction, front_tables, get_or, get_or-map, handed_on, keeps_all, keeps_along, length, length-map, making-next, making-none, map, option_map, subst, sym, take, take_all, too_much-next, ℕ, ◌+◌, ◌<◌, ◌^◌, ◌∙◌, ◌≡◌, ◌≤◌}
 use Rattle.ncl_stage.proofs.OutputLaws.{IsLast, last-live, last-table, conjunction-at, length-front_tables}
 use Rattle.ncl_stage.proofs.outputs.data_fronts.Goals as goal
 
@@ -69,3 +69,13 @@ conjoin-requires-clause-next g c =
 pub returns-in_err-push-clause-kept : goal.returns-in_err-push-clause-kept
 returns-in_err-push-clause-kept g c =
     keeps_along (g.P.Space.meaning c.args.space.now) (g.P.Space.meaning c.loop-next.space) (g.P.Space.meaning c.conjoin.new.space) c.loop-next.invariant.making.kept c.in_ok-front.ensures.kept
+
+pub returns-in_err-made-clause-kept : goal.returns-in_err-made-clause-kept
+returns-in_err-made-clause-kept g c = keeps_all (g.P.Space.meaning c.args.space.now) c.facts.ensures
+
+pub returns-in_err-front-clause-kept : goal.returns-in_err-front-clause-kept
+returns-in_err-front-clause-kept g c =
+    keeps_along (g.P.Space.meaning c.args.space.now) (g.P.Space.meaning c.loop-next.space) (g.P.Space.meaning c.conjoin.new.space) c.loop-next.invariant.making.kept c.in_err-front.ensures.kept
+
+pub returns-clause-kept : goal.returns-clause-kept
+returns-clause-kept g c = c.loop-next.invariant.making.kept

@@ -1,4 +1,4 @@
-use Rattle.ncl_stage.proofs.Terms.{All, Bool, Err, IsLive, Keeps, Kind, List, Makes, Making, Ref, SpaceData, [], ap, drop, false, fits, gate_table, get_or, get_or-map, handed_on, keeps_along, length, making-none, making-one, map, map-cut, map_more, pair_table, subst, sym, take, too_much-front, ℕ, ◌++◌, ◌+◌, ◌<◌, ◌∙◌, ◌∷◌, ◌≡◌, both-live}
+use Rattle.ncl_stage.proofs.Terms.{All, Bool, Err, IsLive, Keeps, Kind, List, Makes, MakesAll, Making, Ref, SpaceData, [], ap, drop, false, fits, gate_table, get_or, get_or-map, handed_on, keeps_all, keeps_along, length, making-none, making-one, map, map-cut, map_more, pair_table, subst, sym, take, take_all, too_much-front, ℕ, ◌++◌, ◌+◌, ◌<◌, ◌∙◌, ◌∷◌, ◌≡◌, both-live}
 use Rattle.ncl_stage.proofs.outputs.pair_refs.Goals as goal
 
 -- the gate on two Refs that were live at first
@@ -64,3 +64,19 @@ apply-requires-clause-live g c =
 pub returns-in_err-push-clause-kept : goal.returns-in_err-push-clause-kept
 returns-in_err-push-clause-kept g c =
     keeps_along (g.P.Space.meaning c.args.space.now) (g.P.Space.meaning c.loop-pair.space) (g.P.Space.meaning c.apply.new.self) c.loop-pair.invariant.kept c.in_ok-one.ensures.kept
+
+pub returns-in_err-made-clause-kept : goal.returns-in_err-made-clause-kept
+returns-in_err-made-clause-kept g c = keeps_all (g.P.Space.meaning c.args.space.now) c.facts.ensures
+
+pub returns-in_err-one-clause-kept : goal.returns-in_err-one-clause-kept
+returns-in_err-one-clause-kept g c =
+    keeps_along (g.P.Space.meaning c.args.space.now) (g.P.Space.meaning c.loop-pair.space) (g.P.Space.meaning c.apply.new.self) c.loop-pair.invariant.kept c.in_err-one.ensures.kept
+
+pub returns-clause-made : goal.returns-clause-made
+returns-clause-made g c =
+    let old : SpaceData = g.P.Space.meaning c.args.space.now in
+    subst (λ pairs. MakesAll old (g.P.Space.meaning c.loop-pair.space) c.loop-pair.made.items (map (pair_table old.width c.args.kind (map old.table c.args.refs.now)) pairs))
+    (take_all c.loop-pair.pair-index c.args.pairs.now c.loop-pair-test.false) c.loop-pair.invariant.all
+
+pub returns-clause-kept : goal.returns-clause-kept
+returns-clause-kept g c = c.loop-pair.invariant.kept

@@ -6,6 +6,7 @@ pub mod InOrder
 pub mod Changed
 pub mod Whole
 pub mod WaitsLaws
+pub mod PinValues
 pub mod FormLaws
 pub mod FormGates
 pub mod JointLaws

@@ -1,9 +1,9 @@
 //! The simulator.
-ghost use Rattle.std.specs.Prelude.{◌≡◌, ◌≤◌, ◌*◌, All, IfOk, length, map};
+ghost use Rattle.std.specs.Prelude.{◌≡◌, ◌≤◌, ◌*◌, ◌^◌, All, IfOk, length, map};
 ghost use Rattle.ncl_faults.specs.Faults.{IsSound};
 ghost use Rattle.ncl_machine.specs.Run.{AreWordsOf};
 ghost use Rattle.ncl_sim.specs.Running.{Tells};
-ghost use Rattle.ncl_sim.specs.TimedRun.{DeliversAll, IsTimedRun, takes_in};
+ghost use Rattle.ncl_sim.specs.TimedRun.{DeliversAll, IsTimedRun, most_steps, takes_in};
 ghost use Rattle.ncl_delay.specs.declared.fired.Fired.{Fired as FiredStep};
 ghost use Rattle.ncl_sim.specs.declared.trace.Taken.{Taken as TakenPair};
 ghost use Rattle.ncl_sim.specs.declared.trace.End.TheVariants.{Quiet};
@@ -63,6 +63,18 @@ fn trace_of(alloc: Global, run: Run, end: End) -> Result<Trace, Memory>
     })
 }
 
+/// The trace of the run of a course over some words. `most` is the most steps of a run.
+fn run_of(alloc: Global, course: &Course, words: &[Word], most: u64) -> Result<Trace, Memory>
+    requires words { AreWordsOf course.now.pipeline words.now }
+    requires most { most ≡ most_steps course.now.pipeline words.now }
+    requires few { most ≤ 2 ^ 43 }
+    ensures { IfOk result (IsTimedRun course.now.pipeline course.now.delays words.now) }
+{
+    let mut run = Run::begin(alloc, course, words)?;
+    let end = run.finish(course, most)?;
+    trace_of(alloc, run, end)
+}
+
 /// Runs a pipeline over some words, each of the width of the first bank, with delays: each item steps when it has been
 /// enabled for its delay, and of those that are due at one time the one of the least number first.
 ///
@@ -88,10 +100,8 @@ pub fn simulate(
 {
     pipeline.facts();
     let course = Course::of(alloc, pipeline, delays)?;
-    let mut run = Run::begin(alloc, &course, words)?;
     let nets = pipeline.netlist().nets().len();
     let due = pipeline.data_banks() + words.len();
     let most = 2 * due as u64 * nets as u64;
-    let end = run.finish(&course, most)?;
-    trace_of(alloc, run, end)
+    run_of(alloc, &course, words, most)
 }

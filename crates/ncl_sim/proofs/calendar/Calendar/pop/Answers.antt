@@ -1,4 +1,5 @@
-use Rattle.ncl_sim.proofs.CalendarLaws.{IsPermutation, [], all_events, ap, arith, heap-first, heap_items, less-heaped, no-items, no-length, none-old, none-whole, some-first, some-out, some-time, subst, sym, ◌++◌, ◌∙◌, ◌∷◌, ◌≡◌}
+use Rattle.ncl_sim.proofs.CalendarLaws.{IsPermutation, [], all_events, ap, arith, event_cmp, heap-first, heap_items, less-heaped, no-items, no-length, none-old, none-whole, some-first, some-out, some-time, subst, sym, ◌++◌, ◌∙◌, ◌∷◌, ◌≡◌}
+use Rattle.std.specs.BinaryHeap.{IsHeap}
 use Rattle.ncl_sim.proofs.calendar.Calendar.pop.Goals as goal
 
 pub returns-then-is_first-clause-rest : goal.returns-then-is_first-clause-rest
@@ -56,3 +57,19 @@ returns-clause-first c =
     heap-first c.self.view_is c.refill.new.opened.items c.refill.new.wheel.waiting c.refill.ensures.same
     c.refill.ensures.all c.as_slice.ensures.value (c.is_first.ensures.other c.if-is_first.false) c.refill.new.wheel.time c.in-Some.first
     (c.in-Some.ensures.heap_order c.self.invariant.in_order).1 c.refill.ensures.due c.refill.ensures.later
+
+pub invariant_of-self-in_default : goal.invariant_of-self-in_default
+invariant_of-self-in_default c = record {
+  sorted = c.refill.ensures.sorted;
+  due = c.refill.ensures.due;
+  later = c.refill.ensures.later;
+  in_order = subst (IsHeap event_cmp) (sym c.in_default.ensures.unchanged.0) c.self.invariant.in_order;
+}
+
+pub invariant_of-self-then-not-is_empty : goal.invariant_of-self-then-not-is_empty
+invariant_of-self-then-not-is_empty c = record {
+  sorted = c.refill.ensures.sorted;
+  due = c.refill.ensures.due;
+  later = c.refill.ensures.later;
+  in_order = (c.in-Some.ensures.heap_order c.self.invariant.in_order).0;
+}

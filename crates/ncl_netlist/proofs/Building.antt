@@ -1,5 +1,5 @@
 -- What holds of the netlist that parts describe.
-use Rattle.ncl_netlist.proofs.Terms.{All, All-cons, All-from_get_or, All-head, All-map, All-nil, All-tail, All-take, AllDiffer, Bool, BuildFault, Cell, CellFits, EachIndex, Err, HasAllPins, HasFewCells, HasOwnCellNames, IfErr, IsErrAnd, IsFaultOf, IsFaultOfCounts, IsFaultless, IsFirstWhere, IsNetlist, List, Memory, NetId, NoDriver, Ok, PartCell, Parts, Port, Result, SameName, TooMany, TwoDrivers, [], ap, arith, cell_of, count_by, drivers_at, drives, false, flat_map, fold-append, get_or, input_names, insert_all, insert_key, length, length-append, length-map, length-take, list_any, list_any-append, list_any_at, map, map-append, name_number, nat_eq, net_of, netlist_of, nets_of, once_each, output_name, pin_names, pins_of-few, pins_of-some, port_names, refl, same_name, slice_get_within, slice_index, subst, suc, sym, take, true, zero, ℕ, ◌*◌, ◌++◌, ◌+◌, ◌-◌, ◌<◌, ◌^◌, ◌||◌, ◌∙◌, ◌∷◌, ◌≡◌, ◌≤◌}
+use Rattle.ncl_netlist.proofs.Terms.{All, All-cons, All-from_get_or, All-head, All-map, All-nil, All-tail, All-take, AllDiffer, AreCounts, Bool, BuildFault, Cell, CellFits, EachIndex, Err, HasAllPins, HasFewCells, HasOwnCellNames, IfErr, IsErrAnd, IsFaultOf, IsFaultOfCounts, IsFaultless, IsFirstWhere, IsNetlist, List, Memory, NetId, NoDriver, Ok, PartCell, Parts, Port, Result, SameName, TooMany, TwoDrivers, [], ap, arith, cell_of, count_by, drivers_at, drives, false, flat_map, fold-append, get_or, input_names, insert_all, insert_key, length, length-append, length-map, length-take, list_any, list_any-append, list_any_at, map, map-append, name_number, nat_eq, net_of, netlist_of, nets_of, once_each, output_name, pin_names, pins_of-few, pins_of-some, port_names, refl, same_name, slice_get_within, slice_index, subst, suc, sym, take, true, zero, ℕ, ◌*◌, ◌++◌, ◌+◌, ◌-◌, ◌<◌, ◌^◌, ◌||◌, ◌∙◌, ◌∷◌, ◌≡◌, ◌≤◌}
 use Rattle.ncl_netlist.proofs.NameLists.{same_itself, insert_all-none, AllDiffer-once_each, take-once_each, length-insert_all, name_number-lt-length, list_any-once_each, get_or-name_number}
 
 or_true : (b : Bool) → (b || true) ≡ true
@@ -114,15 +114,15 @@ pub record Drafted (parts : Parts) (nets : List (List ℕ)) (cells : List Cell) 
   pub cells_are : cells ≡ map (cell_of (nets_of parts)) parts.cells
 
 -- the names that are inserted port by port and then pin by pin are the nets
-pub drafted : (parts : Parts) (ports : List Port) (part_cells : List PartCell) (first all nets : List (List ℕ)) (cells : List Cell) → ports ≡ parts.ports → part_cells ≡ parts.cells → first ≡ insert_all same_name [] (map (λ port. port.name) ports) → all ≡ insert_all same_name first (flat_map (λ cell. cell.pins) part_cells) → cells ≡ map (cell_of all) part_cells → nets ≡ all → Drafted parts nets cells
-drafted parts ports part_cells first all nets cells p q f a c n =
-    let names : all ≡ nets_of parts =
-    a ∙ (λ i. insert_all same_name (f i) (flat_map (λ cell. cell.pins) part_cells))
+pub drafted : (parts : Parts) (ports : List Port) (part_cells : List PartCell) (nets : List (List ℕ)) (cells : List Cell) → ports ≡ parts.ports → part_cells ≡ parts.cells → nets ≡ insert_all same_name (insert_all same_name [] (map (λ port. port.name) ports)) (flat_map (λ cell. cell.pins) part_cells) → cells ≡ map (cell_of nets) part_cells → Drafted parts nets cells
+drafted parts ports part_cells nets cells p q n c =
+    let names : nets ≡ nets_of parts =
+    n
     ∙ sym (fold-append (insert_key same_name) [] (map (λ port. port.name) ports) (flat_map (λ cell. cell.pins) part_cells))
     ∙ insert_all-none (map (λ port. port.name) ports ++ flat_map (λ cell. cell.pins) part_cells)
     ∙ (λ i. once_each (map (λ port. port.name) (p i) ++ flat_map (λ cell. cell.pins) (q i))) in
     record {
-      nets_are = n ∙ names;
+      nets_are = names;
       cells_are = c ∙ (λ i. map (cell_of (names i)) (q i));
     }
 
@@ -142,15 +142,13 @@ pub record Counted (parts : Parts) (counts : List ℕ) : Type 0 where
   pub long : length counts ≡ length (nets_of parts)
   pub are : (net : ℕ) → net < length (nets_of parts) → slice_index counts net ≡ drivers_at parts net
 
-pub counted : (parts : Parts) (nets : List (List ℕ)) (cells : List Cell) (ports : List Port) (shown_cells : List Cell) (counts shown : List ℕ) (n : ℕ) → Drafted parts nets cells → ports ≡ parts.ports → shown_cells ≡ cells → shown ≡ counts → length counts ≡ n → n ≡ length nets
-    → ((net : ℕ) → net < n → slice_index counts net ≡ slice_index (map drives ports) net + count_by (λ cell. nat_eq cell.out.0 net) shown_cells) → Counted parts shown
-counted parts nets cells ports shown_cells counts shown n draft p q s l m are =
-    let long = ap length draft.nets_are in
+pub counted : (parts : Parts) (nets shown_nets : List (List ℕ)) (cells shown_cells : List Cell) (ports : List Port) (counts : List ℕ) → Drafted parts nets cells → ports ≡ parts.ports → shown_cells ≡ cells → shown_nets ≡ nets → AreCounts ports shown_cells (length shown_nets) counts → Counted parts counts
+counted parts nets shown_nets cells shown_cells ports counts draft p q s made =
+    let long = ap length (s ∙ draft.nets_are) in
     record {
-      long = ap length s ∙ l ∙ m ∙ long;
+      long = made.long ∙ long;
       are = λ net within.
-          ap (λ c. slice_index c net) s
-          ∙ are net (omega arith)
+          made.are net (omega (arith, long, within))
           ∙ (λ i. slice_index (map drives (p i)) net + count_by (λ cell. nat_eq cell.out.0 net) ((q ∙ draft.cells_are) i));
     }
 

@@ -1,10 +1,12 @@
 -- The rules for parts, in the order in which they are asked, and the fault where one is broken.
-use Rattle.std.specs.Prelude.{◌≡◌, ℕ, ◌<◌, ◌≤◌, List, length, slice_index, EachIndex}
+use Rattle.std.specs.Prelude.{◌≡◌, ℕ, ◌+◌, ◌<◌, ◌≤◌, List, map, length, slice_index, count_by, nat_eq, EachIndex}
+use Rattle.ncl_netlist.specs.declared.cell.Cell.{Cell}
 use Rattle.ncl_netlist.specs.declared.parts.Parts.{Parts}
+use Rattle.ncl_netlist.specs.declared.port.Port.{Port}
 use Rattle.ncl_netlist.specs.declared.build_fault.BuildFault.{BuildFault}
 use Rattle.ncl_netlist.specs.declared.build_fault.BuildFault.TheVariants.{TooMany, SameName, TwoDrivers, NoDriver, Memory}
 use Rattle.ncl_netlist.specs.Names.{AllDiffer, Repeats, IsFirstWhere}
-use Rattle.ncl_netlist.specs.Netlist.{most_cells, drivers_of}
+use Rattle.ncl_netlist.specs.Netlist.{most_cells, drives, drivers_of}
 use Rattle.ncl_netlist.specs.Parts.{cell_names, nets_of, netlist_of}
 
 -- how many drivers the net of this number has
@@ -44,6 +46,11 @@ IsFaultOf parts (NoDriver x) =
     HasFewCells parts × HasOwnCellNames parts × HasNoTwoDrivers parts
     × IsFirstWhere (λ net. drivers_at parts net ≡ 0) (nets_of parts) x
 IsFaultOf parts Memory = Unit {0}
+
+-- the counts of the drivers of so many nets, of which the ports are the first
+pub record AreCounts (ports : List Port) (cells : List Cell) (nets : ℕ) (counts : List ℕ) : Type 0 where
+  pub long : length counts ≡ nets
+  pub are : (net : ℕ) → net < nets → slice_index counts net ≡ slice_index (map drives ports) net + count_by (λ cell. nat_eq cell.out.0 net) cells
 
 -- the fault of nets that have these counts of drivers
 abbrev pub IsFaultOfCounts : List ℕ → List (List ℕ) → BuildFault → Type 0

@@ -1,7 +1,7 @@
 //! The drivers of the nets.
-ghost use Rattle.std.specs.Prelude.{◌≡◌, ℕ, ◌+◌, ◌<◌, ◌≤◌, ◌^◌, IfOk, IfErr, OnOk, MatchOption, length, vec_len, map, All, EachIndex, count_by, nat_eq, slice_index, slice_get, Some};
+ghost use Rattle.std.specs.Prelude.{◌≡◌, ℕ, ◌+◌, ◌<◌, ◌≤◌, ◌^◌, ◌⊎◌, IfOk, IfErr, OnOk, MatchOption, length, vec_len, List, map, All, EachIndex, count_by, nat_eq, slice_index, slice_get, Some};
 ghost use Rattle.ncl_netlist.specs.Netlist.{drives};
-ghost use Rattle.ncl_netlist.specs.Faults.{IsFaultOfCounts};
+ghost use Rattle.ncl_netlist.specs.Faults.{AreCounts, IsFaultOfCounts};
 
 use crate::build_fault::BuildFault;
 use crate::cell::Cell;
@@ -38,7 +38,7 @@ fn count_cells(counts: &mut [u32], cells: &[Cell])
 }
 
 /// How many drivers each net has. Linear in the nets and the cells.
-pub(crate) fn count_drivers(
+fn count_drivers(
     alloc: Global,
     ports: &[Port],
     cells: &[Cell],
@@ -83,7 +83,7 @@ fn name_of(alloc: Global, nets: &[Name], net: usize) -> Result<Name, Memory>
 }
 
 /// Refuses nets of which one has two or more drivers, or none. Linear in the nets.
-pub(crate) fn check_drivers(alloc: Global, counts: &[u32], nets: &[Name]) -> Result<(), BuildFault>
+fn check_drivers(alloc: Global, counts: &[u32], nets: &[Name]) -> Result<(), BuildFault>
     requires { length counts.now ≡ length nets.now }
     ensures ok { OnOk result (EachIndex counts.now (λ net. slice_index counts.now net ≡ 1)) }
     ensures fault { IfErr result (IsFaultOfCounts counts.now nets.now) }
@@ -95,4 +95,24 @@ pub(crate) fn check_drivers(alloc: Global, counts: &[u32], nets: &[Name]) -> Res
         return Err(BuildFault::NoDriver(name_of(alloc, nets, net)?));
     }
     Ok(())
+}
+
+/// Refuses nets of which one has two or more drivers, or none, by the ports, which are the first nets, and the cells.
+/// Linear in the nets and the cells.
+pub(crate) fn check_nets(
+    alloc: Global,
+    ports: &[Port],
+    cells: &[Cell],
+    nets: &[Name],
+) -> Result<(), BuildFault>
+    requires ports { length ports.now ≤ length nets.now }
+    requires few { length cells.now < 2 ^ 31 }
+    requires fit { All (λ cell. cell.out.0 < length nets.now) cells.now }
+    ensures ok { OnOk result ((counts : List ℕ) × AreCounts ports.now cells.now (length nets.now) counts
+        × EachIndex counts (λ net. slice_index counts net ≡ 1)) }
+    ensures fault { IfErr result (λ fault. (fault ≡ BuildFault.Memory)
+        ⊎ ((counts : List ℕ) × AreCounts ports.now cells.now (length nets.now) counts × IsFaultOfCounts counts nets.now fault)) }
+{
+    let counts = count_drivers(alloc, ports, cells, nets.len())?;
+    check_drivers(alloc, &counts, nets)
 }

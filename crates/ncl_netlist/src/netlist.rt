@@ -8,8 +8,8 @@ ghost use Rattle.ncl_netlist.specs.Faults.{IsFaultless, IsFaultOf};
 use crate::build_fault::BuildFault;
 use crate::cell::Cell;
 use crate::cell_rules::check_cells;
-use crate::drivers::{check_drivers, count_drivers};
-use crate::numbering::{into_nets, number_cells, number_ports};
+use crate::drivers::check_nets;
+use crate::numbering::number_all;
 use crate::parts::Parts;
 use crate::port::Port;
 use ncl_base::Name;
@@ -60,11 +60,8 @@ pub fn build(alloc: Global, parts: Parts) -> Result<Netlist, BuildFault>
         ports,
         cells,
     } = parts;
-    let mut names = number_ports(alloc, ports.items(), cells.items().len())?;
-    let cells = number_cells(alloc, &mut names, cells.into_vec())?;
-    let nets = into_nets(alloc, names)?;
-    let counts = count_drivers(alloc, ports.items(), &cells, nets.len())?;
-    check_drivers(alloc, &counts, &nets)?;
+    let (nets, cells) = number_all(alloc, ports.items(), cells.into_vec())?;
+    check_nets(alloc, ports.items(), &cells, &nets)?;
     Ok(Netlist {
         module,
         ports: ports.into_vec(),

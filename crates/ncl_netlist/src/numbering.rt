@@ -72,7 +72,7 @@ fn number_cell(names: &mut IndexSet<Name>, cell: PartCell) -> Result<Cell, Memor
 /// The cells with the numbers of their nets, whose names come after those that are there.
 ///
 /// Linear in the bytes of the names.
-pub(crate) fn number_cells(
+fn number_cells(
     alloc: Global,
     names: &mut IndexSet<Name>,
     cells: Vec<PartCell>,
@@ -93,11 +93,7 @@ pub(crate) fn number_cells(
 /// The names of the ports, which are the first nets, with room for as many names of cells' nets as are told.
 ///
 /// Linear in the bytes of the names, each of which is copied, and in the room.
-pub(crate) fn number_ports(
-    alloc: Global,
-    ports: &[Port],
-    others: usize,
-) -> Result<IndexSet<Name>, Memory>
+fn number_ports(alloc: Global, ports: &[Port], others: usize) -> Result<IndexSet<Name>, Memory>
     requires { length ports.now + others < 2 ^ 32 }
     ensures { IfOk result
         (λ names. names.keys ≡ insert_all same_name [] (map (λ port. port.name) ports.now)) }
@@ -110,8 +106,28 @@ pub(crate) fn number_ports(
 }
 
 /// The names in the order of their numbers. Linear in the names.
-pub(crate) fn into_nets(alloc: Global, names: IndexSet<Name>) -> Result<Vec<Name>, Memory>
+fn into_nets(alloc: Global, names: IndexSet<Name>) -> Result<Vec<Name>, Memory>
     ensures { IfOk result (λ nets. nets.items ≡ names.keys) }
 {
     Ok(names.into_iter().collect(alloc)?)
+}
+
+/// The names of the nets in the order of their numbers, and the cells with these numbers.
+///
+/// Near linear in the bytes of the names.
+pub(crate) fn number_all(
+    alloc: Global,
+    ports: &[Port],
+    cells: Vec<PartCell>,
+) -> Result<(Vec<Name>, Vec<Cell>), Memory>
+    requires pins { All HasAllPins cells.items }
+    requires room { length ports.now + 5 * length cells.items < 2 ^ 32 }
+    ensures nets { IfOk result (λ r. r.0.items ≡ insert_all same_name
+        (insert_all same_name [] (map (λ port. port.name) ports.now)) (flat_map (λ cell. cell.pins) cells.items)) }
+    ensures cells { IfOk result (λ r. r.1.items ≡ map (cell_of r.0.items) cells.items) }
+{
+    let mut names = number_ports(alloc, ports, cells.len())?;
+    let numbered = number_cells(alloc, &mut names, cells)?;
+    let nets = into_nets(alloc, names)?;
+    Ok((nets, numbered))
 }

@@ -4,7 +4,7 @@
     bench/lemmas.py
 
 Reads the files of crates/*/proofs. Two statements are one where they are the same but for the names of what they bind; what is
-only defined, and the answer to a goal, is not compared. A lemma is cited where its name stands outside it, in a proof, in
+only defined, the answer to a goal, and what holds at a point of one function (After-POINT), is not compared. A lemma is cited where its name stands outside it, in a proof, in
 a definition or in a line of the program that names it for a proof; the prover may still find one that isn't by itself. Prints
 each with its places, then the sums. The status is 1 where a statement stands twice.
 """
@@ -68,7 +68,7 @@ def main():
         lines = text.split("\n")
         for start, end, name, statement in paragraphs(lines):
             place = f"{path.relative_to(TOP)}:{start + 1} {name}"
-            if "goal." in statement or path.name == "Invariants.antt":
+            if "goal." in statement or "After-" in statement or path.name == "Invariants.antt":
                 continue
             if len(statement) >= 40:
                 places[alike(statement)].append(place)

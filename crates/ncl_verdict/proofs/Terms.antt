@@ -1,9 +1,9 @@
 -- What the proofs of this crate take from the library, the crates below and its own definitions, passed on.
-pub use Rattle.std.proofs.Common.{Bool, Err, IfOk, IfSome, List, None, Ok, Option, Result, Some, [], ap, append-nil, arith, below_more, cond, drop, false, get_or, inl, inr, length, map, min, not, refl, rules, set, subst, suc, sym, take, true, zero, ℕ, ◌%◌, ◌&&◌, ◌*◌, ◌++◌, ◌+◌, ◌-◌, ◌/◌, ◌<◌, ◌^◌, ◌||◌, ◌∙◌, ◌∷◌, ◌≡◌, ◌≢◌, ◌≤◌, ◌⊎◌}
+pub use Rattle.std.proofs.Common.{Bool, Err, IfNone, IfOk, IfSome, List, None, Ok, Option, Result, Some, [], ap, append-nil, arith, below_more, cond, drop, false, get_or, inl, inr, length, map, min, not, refl, rules, set, subst, suc, sym, take, true, zero, ℕ, ◌%◌, ◌&&◌, ◌*◌, ◌++◌, ◌+◌, ◌-◌, ◌/◌, ◌<◌, ◌^◌, ◌||◌, ◌∙◌, ◌∷◌, ◌≡◌, ◌≢◌, ◌≤◌, ◌⊎◌}
 pub use Rattle.std.proofs.Math.Path.{fun_ext}
 pub use Rattle.std.proofs.lemmas.Bool.{both_ways, cases_Bool, cases_eq, cases_lt, eq-eqb, eqb-true, le-ltb, lt-ltb, ltb-false, ltb-true, ne_eqb, or_cases, or_left, or_right}
 pub use Rattle.std.proofs.lemmas.Bool.Decides.{leb_tells, nat_tests}
-pub use Rattle.std.proofs.lemmas.Grind.{flat_map-append}
+pub use Rattle.std.proofs.lemmas.Grind.{common_steps, flat_map-append}
 pub use Rattle.std.proofs.lemmas.List.{append_assoc, get_or-map, get_or-set_other, get_or-set_same, get_or_append_left, get_or_default, get_or_past, get_or_push, length-append, length-map, length-set, map-append, take-append-drop, take_all, take_more}
 pub use Rattle.std.proofs.lemmas.List.Elements.{All-contains, filter-append}
 pub use Rattle.std.proofs.lemmas.List.Folds.{list_any-append}
@@ -61,7 +61,7 @@ pub use Rattle.ncl_space.proofs.BoundLaws.{bead_count-bounded}
 pub use Rattle.ncl_space.proofs.FreeLaws.{free}
 pub use Rattle.ncl_space.proofs.MakingLaws.{have-kept}
 pub use Rattle.ncl_space.proofs.Nub.{same}
-pub use Rattle.ncl_space.proofs.SpaceLaws.{count_of_both, fits_fewer, len_grows, too_much_by_front}
+pub use Rattle.ncl_space.proofs.SpaceLaws.{count_of_both, fits_fewer, keeps_along, len_grows, too_much_by_front}
 pub use Rattle.ncl_space.proofs.TableLaws.{beads_of-constant, high_half-append, length-table_of, pow_suc, table_of-same}
 pub use Rattle.ncl_space.specs.Beads.{Beads, bead_count, beads_of, distinct_beads, high_half, is_bead, is_same, low_half}
 pub use Rattle.ncl_space.specs.Bounds.{Agree, IsMarked, Marked, is_free, weight, weights, width_of}

@@ -1,5 +1,6 @@
 //! The judgement of a pipeline's stages.
 ghost use Rattle.std.specs.Prelude.{◌≡◌, ◌≤◌, [], ◌∷◌, IfOk, MatchResult};
+ghost use Rattle.std.specs.Option.{ForSome};
 ghost use Rattle.ncl_verdict.specs.Judgement.{judgement, of_stage, stopped_at};
 
 use crate::acceptance::is_accepted;
@@ -85,15 +86,42 @@ fn refusal_par<R: Threads + Sync>(
     requires { 1 ≤ limit }
     ensures { IfOk result (λ answer. answer ≡ of_stage (stopped_at limit) stage.now) }
 {
-    let ready = match begun(alloc, stage, limit)? {
-        Ok(ready) => ready,
-        Err(answer) => return Ok(answer),
-    };
+    match begun(alloc, stage, limit)? {
+        Ok(ready) => said_par(rt, alloc, ready, parts),
+        Err(answer) => Ok(answer),
+    }
+}
+
+/// What is said of a stage that is ready for its variants, by at most so many threads.
+fn said_par<R: Threads + Sync>(
+    rt: &R,
+    alloc: Global,
+    ready: Ready,
+    parts: u32,
+) -> Result<Option<Verdict>, Memory>
+    ensures { IfOk result (λ answer. answer ≡ of_stage (stopped_at ready.entry.limit) ready.entry.stage) }
+{
+    match heard(rt, alloc, &ready, parts) {
+        Some(answer) => answer,
+        None => ready.said(alloc),
+    }
+}
+
+/// What is said of it where the threads asked all variants.
+fn heard<R: Threads + Sync>(
+    rt: &R,
+    alloc: Global,
+    ready: &Ready,
+    parts: u32,
+) -> Option<Result<Option<Verdict>, Memory>>
+    ensures { ForSome result (λ answer. IfOk answer (λ said. said ≡ of_stage (stopped_at ready.now.limit) ready.now.stage)) }
+{
     ready.facts();
-    match hear(rt, alloc, &ready, parts)? {
-        Heard::Nothing => Ok(None),
-        Heard::Said(verdict) => Ok(Some(verdict)),
-        Heard::Open => ready.said(alloc),
+    match hear(rt, alloc, ready, parts) {
+        Ok(Heard::Nothing) => Some(Ok(None)),
+        Ok(Heard::Said(verdict)) => Some(Ok(Some(verdict))),
+        Ok(Heard::Open) => None,
+        Err(fault) => Some(Err(fault)),
     }
 }
 

@@ -42,17 +42,18 @@ fn bit_of(netlist: &Netlist, drivers: &[Option<u32>], place: u32, cell: &Cell) -
     ensures bit { IsBitOf netlist.now result.0.0 result.1 }
     ensures place { result.1.ack.0 ≡ place }
 {
-    let Some((zero, bank)) = register_behind(netlist, drivers, cell.ins[0]) else {
+    let (low, high) = (cell.ins[0], cell.ins[1]);
+    let Some((zero, bank)) = register_behind(netlist, drivers, low) else {
         unreachable!();
     };
-    let Some((one, _)) = register_behind(netlist, drivers, cell.ins[1]) else {
+    let Some((one, _)) = register_behind(netlist, drivers, high) else {
         unreachable!();
     };
     let bit = Bit {
         rail0: CellId(zero),
         rail1: CellId(one),
         ack: CellId(place),
-        start: reset_value(netlist, drivers, cell.ins[0], cell.ins[1]),
+        start: reset_value(netlist, drivers, low, high),
     };
     (bank, bit)
 }

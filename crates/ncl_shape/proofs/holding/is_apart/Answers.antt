@@ -1,4 +1,4 @@
-use Rattle.ncl_shape.proofs.Terms.{ap, bank_of_mark, both_ways, false, false_from_ne_true, get_or, length, mark_of_bank, not, refl, sym, true, ◌<◌, ◌∙◌, ◌≡◌}
+use Rattle.ncl_shape.proofs.Terms.{ap, arith, bank_of_mark, both_ways, false, false_from_ne_true, get_or, length, mark_of_bank, not, refl, sym, true, ◌<◌, ◌∙◌, ◌≡◌}
 use Rattle.ncl_shape.proofs.Followers.{none_follows, one_follows, only_follows}
 use Rattle.ncl_shape.proofs.BankNets.{follower_within}
 use Rattle.ncl_shape.proofs.holding.is_apart.Goals as goal
@@ -28,3 +28,15 @@ returns c =
           (bank_of_mark n flags are c.args.bank.0 c.requires.inside (sym c.is_data_bank.ensures.data ∙ c.if-not-is_data_bank.false))
           (bank_of_mark n flags are c.in-Some.next.0 within (sym c.is_data_bank-2.ensures.data ∙ marked)))),
     )
+
+pub bounds-followers-bank : goal.bounds-followers-bank
+bounds-followers-bank c = omega (arith, c.requires.inside, c.requires.followers.sized)
+
+pub is_data_bank-requires-2 : goal.is_data_bank-requires-2
+is_data_bank-requires-2 c =
+    follower_within c.args.origins.now.netlist c.is_data_bank.ensures.origins.drivers.netlist c.args.bank.0 c.in-Some.next.0
+    (one_follows c.args.origins.now.netlist c.args.followers.now c.requires.followers c.args.bank.0 c.requires.inside c.in-Some.next c.in-Some.is)
+
+pub returns-then-not-is_data_bank : goal.returns-then-not-is_data_bank
+returns-then-not-is_data_bank c =
+    (λ holds next goes from to. both_ways c.is_data_bank.result c.if-not-is_data_bank.true (c.is_data_bank.ensures.data ∙ mark_of_bank c.args.origins.now.netlist c.args.origins.now.data_banks c.is_data_bank.ensures.origins.data_banks c.args.bank.0 c.requires.inside from), λ all. refl)

@@ -63,3 +63,9 @@ returns c =
     let end = YieldsList-end (YieldsList-from_vec c.args.gates.items (search rules) (search rules)) c.loop-cells.yielded c.loop-cells.cells-iterator c.loop-cells.yielded_by c.next.result c.next.new.self c.in-None.is c.next.ensures.steps in
     let lists = as_many_lists n banks c.args.gates.items c.requires.gates in
     stages_whole n banks c.loop-cells.stages.items (length c.loop-cells.yielded) c.loop-cells.invariant (omega (arith, end.1, lists))
+
+pub overflow_cast-number : goal.overflow_cast-number
+overflow_cast-number c = omega (arith, c.if-k-banks.true, c.requires.few)
+
+pub overflow_add-number : goal.overflow_add-number
+overflow_add-number c = omega (arith, c.if-k-banks.true, c.requires.few)

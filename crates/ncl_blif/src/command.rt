@@ -24,19 +24,36 @@ pub(crate) enum Command {
 
 const MODEL: &[u8] = b".model";
 
+const INPUTS: &[u8] = b".inputs";
+
+const OUTPUTS: &[u8] = b".outputs";
+
+const NAMES: &[u8] = b".names";
+
+const END: &[u8] = b".end";
+
 impl Command {
     /// The command that a line begins with, or `None` where it begins with none that is read.
     pub(crate) fn of_line(line: &Line) -> Option<Command>
         ensures { MatchOption result (is_command line.now ≡ false) (λ command. first_field line.now ≡ field_of command) }
     {
-        match line.first_field() {
-            MODEL => Some(Command::Model),
-            b".inputs" => Some(Command::Inputs),
-            b".outputs" => Some(Command::Outputs),
-            b".names" => Some(Command::Names),
-            b".end" => Some(Command::End),
-            _ => None,
+        let field = line.first_field();
+        if field == MODEL {
+            return Some(Command::Model);
         }
+        if field == INPUTS {
+            return Some(Command::Inputs);
+        }
+        if field == OUTPUTS {
+            return Some(Command::Outputs);
+        }
+        if field == NAMES {
+            return Some(Command::Names);
+        }
+        if field == END {
+            return Some(Command::End);
+        }
+        None
     }
 
     /// Whether its line, of this many fields, may not stand where it does, in a model that has ended

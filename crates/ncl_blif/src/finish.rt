@@ -164,6 +164,19 @@ fn first_numbers(alloc: Global, count: u32) -> Result<Items<u32>, Memory>
     Ok(Items::from_vec(numbers))
 }
 
+/// The name, the inputs and the outputs of the model of a draft, by numbers. A look-up for each output, and linear in
+/// the inputs.
+fn head_by_numbers(alloc: Global, draft: &Draft) -> Result<(Name, Items<u32>, Items<u32>), Memory>
+    requires driven { undriven_line draft.now ≡ None }
+    requires few { length draft.now.inputs < 2 ^ 32 }
+    ensures { IfOk result (λ head. (head.0 ≡ draft.now.name) × (head.1 ≡ range_with_len 0 (length draft.now.inputs))
+        × (head.2 ≡ map (λ output. signal_number draft.now output.signal) draft.now.outputs)) }
+{
+    let name = Name::from_bytes(alloc, draft.name())?;
+    let inputs = first_numbers(alloc, draft.inputs() as u32)?;
+    Ok((name, inputs, numbered_outputs(alloc, draft)?))
+}
+
 /// The model of a draft and its covers by numbers, which have no rows yet. A look-up for each output, and
 /// linear in the inputs and the covers.
 fn by_numbers(alloc: Global, draft: Draft, covers: Vec<Cover>) -> Result<Model, Memory>
@@ -172,10 +185,11 @@ fn by_numbers(alloc: Global, draft: Draft, covers: Vec<Cover>) -> Result<Model, 
     requires covers { covers.items ≡ rowless_covers draft }
     ensures { IfOk result (λ model. model ≡ numbered_model draft.entry) }
 {
+    let (name, inputs, outputs) = head_by_numbers(alloc, &draft)?;
     Ok(Model {
-        name: Name::from_bytes(alloc, draft.name())?,
-        inputs: first_numbers(alloc, draft.inputs() as u32)?,
-        outputs: numbered_outputs(alloc, &draft)?,
+        name,
+        inputs,
+        outputs,
         covers: with_rows(draft, covers),
     })
 }
@@ -197,8 +211,29 @@ fn first_cycle(alloc: Global, draft: &Draft, numbered: &[Cover]) -> Result<Optio
     Ok(Some(covers[place as usize].line()))
 }
 
-/// The model of a draft, the number of which is given, or its fault: no bits, a signal without a driver,
-/// or a cycle, asked in this order.
+/// The covers of a draft by numbers, without their rows, or the fault of its model, the number of which is given: no
+/// bits, a signal without a driver, or a cycle, asked in this order.
+///
+/// `n log n` in the signals that the draft names.
+fn faultless_covers(alloc: Global, draft: &Draft, number: u32) -> Result<Vec<Cover>, BlifFault>
+    requires { length draft.now.covers < 2 ^ 32 }
+    ensures read { IfOk result (λ covers. IsFaultless draft.now × (covers.items ≡ rowless_covers draft.now)) }
+    ensures refused { IfErr result (λ fault. (fault ≡ OutOfMemory) ⊎ IsModelFault number draft.now fault) }
+{
+    if draft.inputs() == 0 || draft.outputs().is_empty() {
+        return Err(BlifFault::NoBits(number));
+    }
+    if let Some(line) = first_undriven(draft) {
+        return Err(BlifFault::Undriven(line));
+    }
+    let covers = numbered_covers(alloc, draft)?;
+    if let Some(line) = first_cycle(alloc, draft, &covers)? {
+        return Err(BlifFault::Cycle(line));
+    }
+    Ok(covers)
+}
+
+/// The model of a draft, the number of which is given, or its fault.
 ///
 /// `n log n` in the signals that the draft names, and at most linear in its rows, which are moved.
 pub(crate) fn finish(alloc: Global, draft: Draft, number: u32) -> Result<Model, BlifFault>
@@ -207,15 +242,6 @@ pub(crate) fn finish(alloc: Global, draft: Draft, number: u32) -> Result<Model, 
     ensures read { IfOk result (λ model. IsFaultless draft.entry × (model ≡ numbered_model draft.entry)) }
     ensures refused { IfErr result (λ fault. (fault ≡ OutOfMemory) ⊎ IsModelFault number draft.entry fault) }
 {
-    if draft.inputs() == 0 || draft.outputs().is_empty() {
-        return Err(BlifFault::NoBits(number));
-    }
-    if let Some(line) = first_undriven(&draft) {
-        return Err(BlifFault::Undriven(line));
-    }
-    let covers = numbered_covers(alloc, &draft)?;
-    if let Some(line) = first_cycle(alloc, &draft, &covers)? {
-        return Err(BlifFault::Cycle(line));
-    }
+    let covers = faultless_covers(alloc, &draft, number)?;
     Ok(by_numbers(alloc, draft, covers)?)
 }

@@ -1,5 +1,0 @@
-use Rattle.ncl_blif.proofs.NumberedLaws.{outputs_driven}
-use Rattle.ncl_blif.proofs.finish.by_numbers.Goals as goal
-
-pub numbered_outputs-requires : goal.numbered_outputs-requires
-numbered_outputs-requires c = outputs_driven c.args.draft c.requires.driven

@@ -1,5 +1,5 @@
 -- The numbers of the nodes that are kept.
-use Rattle.ncl_network.proofs.Terms.{Bool, List, Some, [], ap, arith, cases_lt, cond, count_by, count_by_more_no, count_by_more_yes, false, false≢true, get_or_past, is_kept, length, new_place, one-add, refl, select, slice_get, subst, suc, sum_by-cons, sum_by-take-le, sym, take, take-take, take_all, true, zero, zero-add, ℕ, ⊎_elim, ◌+◌, ◌<◌, ◌∙◌, ◌∷◌, ◌≡◌, ◌≤◌}
+use Rattle.ncl_network.proofs.Terms.{Bool, List, Some, [], ap, arith, cases_eq, cases_lt, cond, count_by, count_by_more_no, count_by_more_yes, false, false≢true, get_or, get_or_append_left, get_or_past, get_or_push, is_kept, length, new_place, one-add, refl, select, slice_get, subst, suc, sum_by-cons, sum_by-take-le, sym, take, take-take, take_all, true, zero, zero-add, ℕ, ⊎_elim, ◌++◌, ◌+◌, ◌<◌, ◌∙◌, ◌∷◌, ◌≡◌, ◌≤◌}
 
 module _ (kept : List Bool) where
   pub kept_within : (k : ℕ) → is_kept kept k ≡ true → k < length kept
@@ -19,6 +19,15 @@ module _ (kept : List Bool) where
   -- what is kept has a lower number than what stands after it
   pub place-below : (k q : ℕ) → is_kept kept k ≡ true → k < q → new_place kept k < new_place kept q
   place-below k q e less = omega (arith, place-kept k e, place-le (k + 1) q (omega arith))
+
+-- the numbers of the places so far, with one more
+pub places_more : (kept : List Bool) (places new : List ℕ) (i next : ℕ) → length places ≡ i → next ≡ new_place kept i → new ≡ places ++ next ∷ [] → ((k : ℕ) → k < i → get_or places k 0 ≡ new_place kept k) → (k : ℕ) → k < i + 1 → get_or new k 0 ≡ new_place kept k
+places_more kept places new i next count is more before k lt =
+    ap (λ l. get_or l k 0) more
+    ∙ ⊎_elim
+    (λ same. get_or_push places next 0 k (count ∙ sym same) ∙ is ∙ ap (new_place kept) (sym same))
+    (λ differs. let less : k < i = omega arith in get_or_append_left places (next ∷ []) 0 k (omega arith) ∙ before k less)
+    (cases_eq k i)
 
 place-cons : (b : Bool) (kept : List Bool) (k : ℕ) → new_place (b ∷ kept) (suc k) ≡ cond b 1 0 + new_place kept k
 place-cons b kept k = sum_by-cons (λ b. cond b 1 0) b (take k kept)

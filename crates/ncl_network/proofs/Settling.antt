@@ -1,5 +1,5 @@
 -- What a cover without constants folds into.
-use Rattle.ncl_network.proofs.Terms.{All, All-head, All-tail, Bool, Dash, List, Lit, One, Zero, [], and_from, and_parts, ap, arith, beq, cond, false, get_or, is_dash, is_one, is_zero, length, list_all, list_any, not, or_cases, or_left, or_right, refl, row_matches, true, two_level, ⊎_elim, ◌&&◌, ◌<◌, ◌||◌, ◌∙◌, ◌∷◌, ◌≡◌}
+use Rattle.ncl_network.proofs.Terms.{All, All-cons, All-head, All-nil, All-tail, Bool, Dash, List, Lit, One, Signal, Zero, [], and_from, and_parts, ap, arith, beq, cond, cover_value, false, get_or, is_dash, is_one, is_zero, length, list_all, list_any, not, or_cases, or_left, or_parts, or_right, refl, row_matches, true, two_level, ℕ, ⊎_elim, ◌&&◌, ◌<◌, ◌||◌, ◌∙◌, ◌∷◌, ◌≡◌, ◌≢◌, ◌≤◌}
 use Rattle.ncl_network.proofs.LiveRows.{dash_matches}
 
 -- a row of dashes alone matches everything
@@ -101,3 +101,35 @@ pub zero_asked : (on bit : Bool) (rows : List (List Lit)) → 0 < length rows �
 zero_asked on bit rows some widths e no_one =
     by_asked on bit rows false true widths e no_one (asks_some rows some widths e no_one)
     ∙ at_four (λ on bit. asked_value on false true bit) (λ on bit. cond (not (beq false on)) (not bit) bit) refl refl refl refl on bit
+
+-- without rows the value is constant too
+pub two_level-none : (on : Bool) (rows : List (List Lit)) (bits : List Bool) → length rows ≡ 0 → two_level on rows bits ≡ not on
+two_level-none true [] bits none = refl
+two_level-none false [] bits none = refl
+two_level-none on (row ∷ rows) bits none = absurd (omega (arith, none))
+
+-- a list of one signal
+pub alone : (signals : List Signal) (signal : Signal) → length signals ≡ 1 → signal ≡ get_or signals 0 signal → signal ∷ [] ≡ signals
+alone [] signal one is = absurd (omega (arith, one))
+alone (x ∷ []) signal one is = ap (λ s. s ∷ []) is
+alone (x ∷ y ∷ signals) signal one is = absurd (omega (arith, one))
+
+-- where there are rows a cover has their value
+pub some_value : (on : Bool) (rows : List (List Lit)) (bits : List Bool) → 0 < length rows → cover_value on rows bits ≡ two_level on rows bits
+some_value on [] bits some = absurd (omega (arith, some))
+some_value on (row ∷ rows) bits some = refl
+
+-- each row asks for something
+pub none_idle : (rows : List (List Lit)) → list_any (list_all is_dash) rows ≡ false → All (λ row. list_all is_dash row ≡ false) rows
+none_idle [] e = All-nil (λ row. list_all is_dash row ≡ false)
+none_idle (row ∷ rows) e =
+    let parts = or_parts _ _ e in
+    All-cons (λ row. list_all is_dash row ≡ false) row rows parts.0 (none_idle rows parts.1)
+
+-- rows that ask for something are of two inputs or more, where not of one
+pub two_asked : (rows : List (List Lit)) (n : ℕ) → 0 < length rows → All (λ row. length row ≡ n) rows → list_any (list_all is_dash) rows ≡ false → n ≢ 1 → 2 ≤ n
+two_asked [] n some widths idle not_one = absurd (omega (arith, some))
+two_asked ([] ∷ rows) n some widths idle not_one = absurd cc
+two_asked ((lit ∷ lits) ∷ rows) n some widths idle not_one =
+    let wide = All-head (λ row. length row ≡ n) (lit ∷ lits) rows widths in
+    omega (arith, wide, not_one)

@@ -1,5 +1,5 @@
 -- What the proofs of this crate take from the library, the crates below and its own definitions, passed on.
-pub use Rattle.std.proofs.Common.{Bool, List, None, Option, Some, [], add-one, add-zero, ap, arith, cond, drop, false, get_or, length, map, nat_lt, not, one-add, refl, replicate, rules, subst, suc, sym, take, true, zero, zero-add, ℕ, ⊎_elim, ◌&&◌, ◌++◌, ◌+◌, ◌-◌, ◌<◌, ◌==◌, ◌^◌, ◌||◌, ◌∙◌, ◌∷◌, ◌≡◌, ◌≢◌, ◌≤◌, ◌⊎◌}
+pub use Rattle.std.proofs.Common.{Bool, List, None, Option, Some, [], add-one, add-zero, ap, arith, cond, drop, false, get_or, length, map, nat_lt, not, one-add, refl, replicate, rules, subst, subst₂, suc, sym, take, true, zero, zero-add, ℕ, ⊎_elim, ◌&&◌, ◌++◌, ◌+◌, ◌-◌, ◌<◌, ◌==◌, ◌^◌, ◌||◌, ◌∙◌, ◌∷◌, ◌≡◌, ◌≢◌, ◌≤◌, ◌⊎◌}
 pub use Rattle.std.proofs.lemmas.Bool.{and_cases, and_from, and_left, and_parts, and_right, cases_eq, cases_lt, eq-eqb, eqb-false, eqb-true, false≢true, lt-ltb, ltb-true, not-false, not-true, or_cases, or_left, or_parts, or_right, true≢false}
 pub use Rattle.std.proofs.lemmas.Bool.Decides.{nat_tests}
 pub use Rattle.std.proofs.lemmas.Grind.{common_steps}
@@ -18,6 +18,7 @@ pub use Rattle.std.specs.Option.{option_map}
 pub use Rattle.std.specs.Ordering.{nat_cmp}
 pub use Rattle.std.specs.Prelude.{All, AllPairs, Contains, IfSome, IsSome, count_by, slice_get, slice_set, sum_by, ⊤}
 pub use Rattle.ncl_base.proofs.Growing.{Contains-filter_map_of, cut_at, length-le-sum_by, position_from-found}
+pub use Rattle.ncl_base.proofs.Lists.{take-written}
 pub use Rattle.ncl_blif.proofs.DependenceLaws.{Depends-from_Leads, position_from-passes}
 pub use Rattle.ncl_blif.specs.Dependence.{dependency_graph, driver_place}
 pub use Rattle.ncl_blif.specs.Meaning.{Fits, Gives, cover_value, lit_matches, row_matches}

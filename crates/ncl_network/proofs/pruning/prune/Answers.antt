@@ -1,5 +1,5 @@
-use Rattle.ncl_network.proofs.Terms.{IsInOrder, Network, ReachesOutput, answer_of, ap, arith, get_or, length, map, moved_node, moved_signal, new_place, select, subst, sym, ℕ, ◌<◌, ◌∙◌, ◌≡◌, ◌≤◌}
-use Rattle.ncl_network.proofs.Marking.{nodes_placed}
+use Rattle.ncl_network.proofs.Terms.{All, IsInOrder, IsPlaced, IsSource, Network, ReachesOutput, answer_of, ap, arith, get_or, length, length-map, map, moved_node, moved_signal, new_place, select, subst, sym, ℕ, ◌<◌, ◌∙◌, ◌≡◌, ◌≤◌}
+use Rattle.ncl_network.proofs.Marking.{all_placed, nodes_placed}
 use Rattle.ncl_network.proofs.Pruned.{pruned, same_answer, IsInOrder-pruned, each_reaches}
 use Rattle.ncl_network.proofs.pruning.prune.Goals as goal
 use Rattle.ncl_network.proofs.pruning.prune.Goals.{After-drop-kept-2}
@@ -46,3 +46,21 @@ pub returns-clause-same : goal.returns-clause-same
 returns-clause-same c word =
     ap (λ network. answer_of network word) (is_pruned c)
     ∙ same_answer c.args.network c.in_ok-kept.kept.items (place_of c) (numbered c) c.requires c.in_ok-kept.ensures word
+
+pub new_places-requires : goal.new_places-requires
+new_places-requires c = omega (arith, ap length c.deref.ensures.value, c.in_ok-kept.ensures.as_many, c.requires.few)
+
+pub moved_signals-requires : goal.moved_signals-requires
+moved_signals-requires c =
+    let count : length c.deref-2.result.now ≡ length c.args.network.nodes =
+    ap length c.deref-2.ensures.value ∙ c.in_ok-places.ensures.length ∙ ap length c.deref.ensures.value ∙ c.in_ok-kept.ensures.as_many in
+    subst (All (λ signal. IsPlaced (length c.deref-2.result.now) signal.from)) (sym c.items.ensures)
+    (all_placed c.args.network.inputs (length c.deref-2.result.now) c.args.network.outputs
+    (subst (λ n. All (λ signal. IsSource c.args.network.inputs n signal.from) c.args.network.outputs) (sym count) c.requires.outputs_exist))
+
+pub kept_part-requires-clause-kept : goal.kept_part-requires-clause-kept
+kept_part-requires-clause-kept c = ap length c.deref-3.ensures.value ∙ c.in_ok-kept.ensures.as_many ∙ sym (ap length c.into_vec.ensures)
+
+pub returns-clause-outputs : goal.returns-clause-outputs
+returns-clause-outputs c =
+    ap length c.in_ok-outputs.ensures ∙ length-map c.items.result.now (moved_signal (λ k. get_or c.deref-2.result.now k 0)) ∙ ap length c.items.ensures

@@ -1,4 +1,4 @@
-use Rattle.ncl_network.proofs.Terms.{All, IsInOrder, IsOrder, IsSome, Network, Option, Signal, Some, answer_of, ap, dependency_graph, get, length, map, nat_cmp, subst, sym, weight_of_model, weight_of_network, ℕ, ◌∙◌, ◌≡◌, ◌≤◌}
+use Rattle.ncl_network.proofs.Terms.{All, IsInOrder, IsNode, IsOrder, IsSome, Network, Option, Signal, Some, answer_of, ap, arith, dependency_graph, get, length, length-map, map, nat_cmp, subst, sym, weight_of_model, weight_of_network, ℕ, ◌∙◌, ◌≡◌, ◌≤◌}
 use Rattle.ncl_network.proofs.Whole.{outputs_known, IsInOrder-whole, same-whole, weight-whole}
 use Rattle.ncl_network.proofs.reducing.fold_model.Goals as goal
 use Rattle.ncl_network.proofs.reducing.fold_model.Goals.{After-drop-order-2}
@@ -39,3 +39,18 @@ unfolding known
 returns-clause-weight c =
     subst (λ network. weight_of_network network ≤ weight_of_model c.args.model.now) (sym (is_whole c))
     (weight-whole c.args.model.now c.requires c.deref.result.now (ordered c) (known c) c.in_ok-walk.walk.nodes.items c.in_ok-walk.ensures c.in_ok-outputs.outputs.items)
+
+pub walk_covers-requires-clause-order : goal.walk_covers-requires-clause-order
+walk_covers-requires-clause-order c =
+    subst (IsOrder (dependency_graph c.args.model.now.covers)) (sym c.deref.ensures.value) c.in_ok-order.ensures
+
+pub overflow_cast-result : goal.overflow_cast-result
+overflow_cast-result c = omega (arith, ap length c.items-2.ensures, c.requires.small)
+
+pub returns-clause-nodes : goal.returns-clause-nodes
+returns-clause-nodes c = subst (All IsNode) (sym c.from_vec.ensures) c.in_ok-walk.ensures.each
+
+pub returns-clause-outputs : goal.returns-clause-outputs
+unfolding known
+returns-clause-outputs c =
+    ap length c.from_vec-2.ensures ∙ sym (length-map c.in_ok-outputs.outputs.items Some) ∙ ap length (found c) ∙ length-map c.args.model.now.outputs (known c)

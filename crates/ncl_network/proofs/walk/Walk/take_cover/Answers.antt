@@ -1,4 +1,4 @@
-use Rattle.ncl_network.proofs.Terms.{All, IsSource, IsWalked, Some, [], ap, cover_value, get, map, nat_cmp, signal_value, subst, sym, weight_of_folded, weight_of_rows, ◌++◌, ◌∙◌, ◌∷◌, ◌≡◌, ◌≤◌}
+use Rattle.ncl_network.proofs.Terms.{All, IsSome, IsSource, IsWalked, Some, [], ap, cover_value, get, length, length-map, map, nat_cmp, signal_value, subst, sym, weight_of_folded, weight_of_rows, ◌++◌, ◌∙◌, ◌∷◌, ◌≡◌, ◌≤◌}
 use Rattle.ncl_network.proofs.Walking.{FoldsInto, IsWalked-more}
 use Rattle.ncl_network.proofs.walk.Walk.take_cover.Goals as goal
 
@@ -17,3 +17,13 @@ returns c model done place at walked =
     } in
     subst (λ nodes. IsWalked model (get nat_cmp c.add.new.self.signals) nodes (done ++ place ∷ [])) (sym c.in_ok-add.ensures.nodes)
     (IsWalked-more model (get nat_cmp c.args.self.now.signals) (get nat_cmp c.add.new.self.signals) c.args.self.now.nodes.items done place c.args.cover.now c.in_ok-ins.ins.items c.in_ok-folded.folded at found into c.in_ok-add.ensures.known walked)
+
+pub look_up-requires : goal.look_up-requires
+look_up-requires c = subst (All (λ name. IsSome (get nat_cmp c.args.self.now.signals name))) (sym c.items.ensures) c.requires.known
+
+pub fold_cover-requires : goal.fold_cover-requires
+fold_cover-requires c =
+    let found = c.in_ok-ins.ensures ∙ ap (map (get nat_cmp c.args.self.now.signals)) c.items.ensures in
+    let wide : length c.args.cover.now.ins ≡ length c.deref.result.now =
+    sym (length-map c.args.cover.now.ins (get nat_cmp c.args.self.now.signals)) ∙ sym (ap length found) ∙ length-map c.in_ok-ins.ins.items Some ∙ sym (ap length c.deref.ensures.value) in
+    subst (All (λ row. length row ≡ length c.deref.result.now)) (sym c.items-2.ensures) (λ k d lt. c.requires.widths k d lt ∙ wide)

@@ -1,5 +1,5 @@
 //! The gates of a stage.
-ghost use Rattle.std.specs.Prelude.{◌≡◌, ◌≤◌, ◌<◌, ◌^◌, true, length, IfOk};
+ghost use Rattle.std.specs.Prelude.{◌≡◌, ◌≤◌, ◌<◌, ◌^◌, true, length, IfOk, IfSome};
 ghost use Rattle.ncl_decomp.specs.Split.{IsSplit};
 ghost use Rattle.ncl_cells.specs.Remade.{IsSameAs};
 ghost use Rattle.ncl_rails.specs.Complete.{IsComplete};
@@ -171,6 +171,20 @@ fn joined_gates(
     joined_within(alloc, network, joined, other, most - most / 8)
 }
 
+/// A network with its carries before its sums, if sums can be made beside carries such that no more than so many gates stand one
+/// after another.
+fn turned(alloc: Global, network: &Network, most: u32) -> Result<Option<Network>, Memory>
+    requires { IsSplit network.now }
+    ensures network { IfOk result (λ turned. IfSome turned IsSplit) }
+    ensures same { IfOk result (λ turned. IfSome turned (IsSameAs network.now)) }
+{
+    if !has_sums(alloc, network, most)? {
+        return Ok(None);
+    }
+    let order = carries_first(alloc, network)?;
+    reordered(alloc, network, &order)
+}
+
 /// The gates of a network, or those of another one with the same answers, where these are better: as it is, with some of its nodes
 /// joined, or with its carries before its sums and with some nodes joined.
 fn other_gates(
@@ -188,11 +202,7 @@ fn other_gates(
 {
     let found = better_gates(alloc, network, usual, other, None)?;
     let found = joined_gates(alloc, network, found, other)?;
-    if !has_sums(alloc, other, found.most)? {
-        return Ok(found);
-    }
-    let order = carries_first(alloc, other)?;
-    match reordered(alloc, other, &order)? {
+    match turned(alloc, other, found.most)? {
         Some(turned) => joined_gates(alloc, network, found, &turned),
         None => Ok(found),
     }

@@ -1,4 +1,4 @@
-use Rattle.ncl_rails.proofs.Terms.{AddsAmong, All, AreLaidOut, IsSource, Signal, Waits, [], all_inputs, ap, arith, cost_of_inputs, get_or, length, length-take-le, map, node_function, refl, signal_pair, subst, sym, take, waits_at, waits_of, ◌+◌, ◌<◌, ◌∙◌, ◌≡◌}
+use Rattle.ncl_rails.proofs.Terms.{AddsAmong, All, AreLaidOut, IsNarrow, IsSource, Node, Signal, Waits, [], all_inputs, ap, arith, cost_of_inputs, get_or, length, length-map, length-take-le, map, node_function, refl, signal_pair, subst, sum_by, sum_by-take-le, sym, take, take_all, waits_at, waits_of, ◌+◌, ◌<◌, ◌∙◌, ◌≡◌}
 use Rattle.ncl_rails.proofs.Laying.{AreLaidOut-none, turn_reads, turn_laid}
 use Rattle.ncl_rails.proofs.layout.add_nodes.Goals as goal
 use Rattle.ncl_rails.proofs.layout.add_nodes.Goals.{After-items}
@@ -44,3 +44,26 @@ loop-node-preserved c =
           c.deref-in-loop-node.result.now shown c.add_waiting.new.gates.cells c.in_ok-pair.pair adds c.push.new.self.items c.in_ok-push.ensures.items);
       first = c.in_ok-pair.ensures.first ∙ c.loop-node.invariant.first;
     }
+
+pub add_waiting-requires-clause-narrow : goal.add_waiting-requires-clause-narrow
+add_waiting-requires-clause-narrow c =
+    let within : c.loop-node.node-index < length c.args.network.now.nodes = omega (arith, c.loop-node-test.true, ap length c.items-node-items.ensures) in
+    subst IsNarrow (sym (c.node-item.is ∙ ap (λ nodes. get_or nodes c.loop-node.node-index c.node-item.result) c.items-node-items.ensures)) (c.requires.complete.varying.nodes c.loop-node.node-index c.node-item.result within)
+
+pub add_waiting-requires-clause-as_many : goal.add_waiting-requires-clause-as_many
+add_waiting-requires-clause-as_many c =
+    ap length (c.deref-in-loop-node.ensures.value ∙ c.in_ok-ins.ensures) ∙ length-map c.items.result.now (signal_pair c.args.inputs.now c.deref.result.now) ∙ ap length c.items.ensures
+
+pub add_waiting-requires-clause-room : goal.add_waiting-requires-clause-room
+add_waiting-requires-clause-room c =
+    let cost = λ (n : Node). cost_of_inputs (length n.ins) in
+    let cells = c.loop-node.invariant.laid.few in
+    let some = sum_by-take-le cost c.items-node-items.result.now c.loop-node.node-index in
+    let all = ap (sum_by cost) c.items-node-items.ensures in
+    let first = c.loop-node.invariant.first ∙ ap (λ g. g.first) c.requires.none in
+    omega (arith, cells, some, all, first, c.requires.room)
+
+pub returns-clause-laid_out : goal.returns-clause-laid_out
+returns-clause-laid_out c =
+    subst (λ nodes. AreLaidOut c.args.inputs.now (waits_of c.args.waits.now) nodes c.loop-node.gates.cells c.loop-node.pairs.items)
+    (take_all c.loop-node.node-index c.items-node-items.result.now c.loop-node-test.false ∙ c.items-node-items.ensures) c.loop-node.invariant.laid

@@ -1,11 +1,12 @@
 //! The banks before, between and after stages.
-ghost use Rattle.std.specs.Prelude.{◌≡◌, ◌<◌, ◌≤◌, length, slice_index, IfOk};
+ghost use Rattle.std.specs.Prelude.{◌≡◌, ◌<◌, ◌≤◌, codes, length, slice_index, IfOk};
 ghost use Rattle.ncl_base.specs.declared.word.TheConstants.{MOST_BITS};
 ghost use Rattle.ncl_blif.specs.Model.{AreModels};
 ghost use Rattle.ncl_blif.specs.Meaning.{width_of};
 ghost use Rattle.ncl_tree.specs.NamePairs.{pair_names, IsFreeOf};
 ghost use Rattle.ncl_network.specs.Size.{widths_of, CanBeCompiled, most_models};
-ghost use Rattle.ncl_compile.specs.InnerNames.{bank_prefix};
+ghost use Rattle.ncl_bank.specs.BankParts.{AreBankParts, CanBeBank};
+ghost use Rattle.ncl_compile.specs.InnerNames.{bank_prefix, root_name};
 ghost use Rattle.ncl_compile.specs.Pieces.{AreStages, AreBanks, IsBankBetween, pairs_read};
 
 use crate::naming::{numbered, pairs_driven, port_pairs, request_name, root_name};
@@ -15,6 +16,24 @@ use ncl_blif::Model;
 use ncl_netlist::NamePair;
 use ncl_rails::StageParts;
 use std::alloc::Global;
+
+/// The bank of this number, from 0, which reads and drives these rails, and has this request.
+fn bank_asked(
+    alloc: Global,
+    ins: &[NamePair],
+    outs: &[NamePair],
+    request: &Name,
+    number: usize,
+) -> Result<BankParts, Memory>
+    requires few { number < 999 }
+    requires can { CanBeBank ins.now outs.now request.now (codes "rst") (root_name number) (bank_prefix number) }
+    ensures { IfOk result (AreBankParts ins.now outs.now request.now (codes "rst") (root_name number) (bank_prefix number)) }
+{
+    let rst = Name::from_bytes(alloc, b"rst")?;
+    let root = root_name(alloc, number)?;
+    let prefix = numbered(alloc, b'b', number)?;
+    bank_parts(alloc, ins, outs, request, &rst, &root, &prefix)
+}
 
 /// The bank of this number, from 0, and this width, which reads these rails, where the last has the number `last`.
 fn bank_between(
@@ -34,10 +53,7 @@ fn bank_between(
 {
     let outs = pairs_driven(alloc, last, number, width)?;
     let request = request_name(alloc, last, number)?;
-    let rst = Name::from_bytes(alloc, b"rst")?;
-    let root = root_name(alloc, number)?;
-    let prefix = numbered(alloc, b'b', number)?;
-    bank_parts(alloc, ins, &outs, &request, &rst, &root, &prefix)
+    bank_asked(alloc, ins, &outs, &request, number)
 }
 
 /// How many bits the bank of this number has, from 0.

@@ -106,6 +106,7 @@ pub use Rattle.ncl_space.specs.Table.{words}
 pub use Rattle.ncl_writer.specs.Names.{spelled_name}
 pub use Rattle.ncl_writer.specs.Text.{cell_line, header_line, opened, pin_text, pin_texts, port_line, text_of, wire_line}
 pub use Rattle.std.proofs.Common.{All, AllPairs, Bool, Contains, IsPermutation, List, MatchOption, None, Option, Some, [], ap, append_assoc, arith, bytes_eq, codes, cond, count_by, drop, eq-eqb, false, filter, get_or, get_or-set_other, get_or-set_same, if◌then◌else◌, inl, inr, is_some, length, length-append, length-set, map, nat_eq, not, refl, set, slice_get, subst, suc, sum_by, sym, take, true, zero, ℕ, ◌&&◌, ◌++◌, ◌+◌, ◌-◌, ◌<◌, ◌==◌, ◌^◌, ◌||◌, ◌∙◌, ◌∷◌, ◌≡◌, ◌≢◌, ◌≤◌, ◌⊎◌}
+pub use Rattle.std.proofs.Math.Bool.{or-false}
 pub use Rattle.std.proofs.Math.Path.{fun_ext}
 pub use Rattle.std.proofs.lemmas.Bool.{and_from, and_parts, both_ways, cases_Bool, cases_eq, cases_lt, eqb-true, false_from_ne_true, ne_eqb, not-true, or_cases, or_parts}
 pub use Rattle.std.proofs.lemmas.Bool.Decides.{Decides-eqb}
@@ -114,7 +115,7 @@ pub use Rattle.std.proofs.lemmas.List.FromFn.{get_or-range_with_len, length-rang
 pub use Rattle.std.proofs.lemmas.List.{append-nil, drop_more, get_or-map, get_or-take, get_or_default, get_or_past, length-drop, length-map, length-take, length-take-le, length_push, map-append, take-append-drop, take_all, take_more}
 pub use Rattle.std.proofs.lemmas.List.Concat.{flat_map-cons, length-flat_map}
 pub use Rattle.std.proofs.lemmas.List.Elements.{All-contains, filter_agree}
-pub use Rattle.std.proofs.lemmas.List.Folds.{find-append, list_all-map}
+pub use Rattle.std.proofs.lemmas.List.Folds.{find-append, list_all-map, list_any-append}
 pub use Rattle.std.proofs.lemmas.List.Kept.{AllPairs-cons, AllPairs-filter}
 pub use Rattle.std.proofs.lemmas.List.Quantifiers.{all_pairs_push}
 pub use Rattle.std.proofs.lemmas.List.Sorted.{Contains-permutation, IsPermutation-sym, list_any-IsPermutation}

@@ -24,6 +24,22 @@ fn pipeline_of<'a>(alloc: Global, netlist: &'a Netlist) -> Result<Pipeline<'a>, 
     }
 }
 
+/// Folds what can be folded in a pipeline, once: the netlist after it, or `None` where nothing is foldable.
+fn folded(alloc: Global, pipeline: &Pipeline) -> Result<Option<Netlist>, Memory>
+    requires { IsSoundNetlist pipeline.now.netlist }
+    ensures { IfOk result (λ found. MatchOption found (NothingFoldable pipeline.now.netlist) (λ next. IsSmaller pipeline.now.netlist next)) }
+{
+    pipeline.facts();
+    match fold_pipeline(alloc, pipeline)? {
+        Some(lists) => {
+            let folded = rebuild(alloc, pipeline, &lists)?;
+            let _facts = folded.cells();
+            Ok(Some(folded))
+        }
+        None => Ok(None),
+    }
+}
+
 /// Folds what can be folded in a netlist, once: the netlist after it, or `None` where nothing is foldable.
 ///
 /// Costs what finding the shape costs, a search for each pair of cells of which one alone reads the other, and a pass over
@@ -33,14 +49,7 @@ fn round(alloc: Global, netlist: &Netlist) -> Result<Option<Netlist>, Memory>
     ensures { IfOk result (λ found. MatchOption found (NothingFoldable netlist.now) (λ next. IsSmaller netlist.now next)) }
 {
     let pipeline = pipeline_of(alloc, netlist)?;
-    match fold_pipeline(alloc, &pipeline)? {
-        Some(lists) => {
-            let folded = rebuild(alloc, &pipeline, &lists)?;
-            let _facts = folded.cells();
-            Ok(Some(folded))
-        }
-        None => Ok(None),
-    }
+    folded(alloc, &pipeline)
 }
 
 /// Merges the gates of a netlist: folds each gate that one cell alone reads into that cell, where a gate is the fold, until

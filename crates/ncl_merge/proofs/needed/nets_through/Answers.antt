@@ -74,3 +74,15 @@ returns-clause-few c =
     let all = three (length c.new-nets.result.items) (length c.add_all.new.nets.items) (length c.add_all-2.new.nets.items) _ c.joint.inside.pin (length c.deref-3.result.now) none (omega (arith, front, c.add_all.ensures.few)) (omega (arith, c.deref-2.ensures.1, c.add_all-2.ensures.few)) (after c.deref-3.result.now (c.joint.inside.pin + 1)) c.deref-3.ensures.1
     (past c.deref-3.result.now c.joint.inside.reader.now.ins.items c.joint.inside.pin c.deref-3.ensures.0 lt) in
     omega (arith, all, c.add_all-3.ensures.few)
+
+pub overflow_add-joint-inside : goal.overflow_add-joint-inside
+overflow_add-joint-inside c =
+    let lt = within _ _ c.joint.view_is c.facts.ensures in
+    let count = ap length c.deref-3.ensures.0 in
+    omega (arith, lt, count, c.deref-3.ensures.1)
+
+pub offset_bounds-deref-joint-inside : goal.offset_bounds-deref-joint-inside
+offset_bounds-deref-joint-inside c =
+    let lt = within _ _ c.joint.view_is c.facts.ensures in
+    let count = ap length c.deref-3.ensures.0 in
+    omega (arith, lt, count, c.deref-3.ensures.1)

@@ -1,10 +1,6 @@
-use Rattle.ncl_merge.proofs.Terms.{HaveGates, List, Option, StageCell, all_of, ap, arith, drop, length, subst, sym, take, ℕ, ◌++◌, ◌∙◌, ◌≡◌}
-use Rattle.std.proofs.lemmas.Grind.{common_steps}
+use Rattle.ncl_merge.proofs.Terms.{HaveGates, all_of, ap, length, subst, sym, ◌∙◌}
+use Rattle.ncl_merge.proofs.FoldingSteps.{whole}
 use Rattle.ncl_merge.proofs.rebuilding.gates_by_net.Goals as goal
-
--- a slice that stands for all of a list is all of the list afterwards
-whole : (len : ℕ) (new old : List (Option StageCell)) → len ≡ length old → length new ≡ length old → take len (new ++ drop (length new) old) ≡ new
-whole len new old all many = grind (arith, common_steps)
 
 pub returns-clause-sized : goal.returns-clause-sized
 returns-clause-sized c =

@@ -53,16 +53,30 @@ pub(crate) fn ask(
     let order = BitOrder::ascending(alloc, bits)?;
     let mut space = Diagram::new(alloc, bits, limit);
     let base = values_in(alloc, &mut space, chain, order, Variant::Base)?;
-    if let Some(found) = found_in_outputs(alloc, &mut space, chain, &base)? {
-        return Ok(Some(found));
-    }
-    let variants = variants_after_base(alloc, stage)?;
     let ending = Ending {
         chain,
         stage,
         base: &base,
     };
-    first_found(alloc, &mut space, &ending, variants.as_slice())
+    found_over(alloc, &mut space, &ending)
+}
+
+/// The same over the functions under Base.
+fn found_over(
+    alloc: Global,
+    space: &mut Diagram,
+    ending: &Ending,
+) -> Result<Option<Found>, SpaceFault>
+    requires base { AreValues (diagram_space space.old) ending.now.chain.now Variant.Base ending.now.base.now }
+    requires ends { EndsWith ending.now.chain.now ending.now.stage.now }
+    ensures found { IfOk result (λ found. option_map shown_of found ≡ first_shown (inputs_of_chain ending.now.base.now.wiring.order ending.now.chain.now ending.now.stage.now) ending.now.stage.now) }
+    ensures full { IsErrOf result SpaceFault.Full → IsPast (diagram_space space.old) ending.now.base.now.wiring.order ending.now.chain.now }
+{
+    if let Some(found) = found_in_outputs(alloc, space, ending.chain, ending.base)? {
+        return Ok(Some(found));
+    }
+    let variants = variants_after_base(alloc, ending.stage)?;
+    first_found(alloc, space, ending, variants.as_slice())
 }
 
 /// The first fault of an output that some input shows, with the least such input.

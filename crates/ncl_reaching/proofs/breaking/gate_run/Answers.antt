@@ -70,3 +70,34 @@ pub returns : goal.returns
 returns c =
     (takes (goal.at.returns c).After-deref-2).breaks c.from_vec.result
     (subst (Loses c.args.way.now.pipeline.now (meaning c.in_ok-state.state) (get_or c.items.result.now c.args.place c.index-items-place.result).cell) (sym c.from_vec.ensures) c.in_ok-run.ensures)
+
+pub bounds-items-place-in_ok-state : goal.bounds-items-place-in_ok-state
+bounds-items-place-in_ok-state c =
+    let p = c.args.way.now.pipeline.now in
+    let within = before-within p c.facts.ensures c.args.way.now.before c.args.way.now.input.now (Orphan c.args.place) c.requires in
+    let at = place_read p.stages c.stages.result.now c.args.way.now.before c.index-stages-way.result c.stages.ensures.stages c.index-stages-way.is within in
+    place-within p c.args.way.now.before c.args.way.now.input.now c.args.place c.requires c.index-stages-way.result at c.items.result.now
+    (c.items.ensures ∙ ap (λ (s : StageData). s.cells) c.own.view_is)
+
+pub offset_bounds-items-place : goal.offset_bounds-items-place
+offset_bounds-items-place c =
+    let p = c.args.way.now.pipeline.now in
+    let within = before-within p c.facts.ensures c.args.way.now.before c.args.way.now.input.now (Orphan c.args.place) c.requires in
+    let at = place_read p.stages c.stages.result.now c.args.way.now.before c.index-stages-way.result c.stages.ensures.stages c.index-stages-way.is within in
+    let lt = place-within p c.args.way.now.before c.args.way.now.input.now c.args.place c.requires c.index-stages-way.result at c.items.result.now (c.items.ensures ∙ ap (λ (s : StageData). s.cells) c.own.view_is) in
+    omega (arith, lt, c.items.type_inv.1)
+
+pub offset_bounds-stages-way : goal.offset_bounds-stages-way
+offset_bounds-stages-way c =
+    let within = before-within c.args.way.now.pipeline.now c.facts.ensures c.args.way.now.before c.args.way.now.input.now (Orphan c.args.place) c.requires in
+    omega (arith, within, ap length c.stages.ensures.stages, c.stages.type_inv.1)
+
+pub overflow_add-way : goal.overflow_add-way
+overflow_add-way c =
+    let within = before-within c.args.way.now.pipeline.now c.facts.ensures c.args.way.now.before c.args.way.now.input.now (Orphan c.args.place) c.requires in
+    omega (arith, within, c.facts.ensures.few_banks)
+
+pub overflow_add-way-2 : goal.overflow_add-way-2
+overflow_add-way-2 c =
+    let within = before-within c.args.way.now.pipeline.now c.facts.ensures c.args.way.now.before c.args.way.now.input.now (Orphan c.args.place) c.requires in
+    omega (arith, within, c.facts.ensures.few_banks)

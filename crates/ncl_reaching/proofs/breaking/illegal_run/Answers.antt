@@ -27,3 +27,9 @@ returns c = λ output b.
     (c.from_vec.ensures
     ∙ happened-so p c.facts.ensures c.args.way.now.before c.args.way.now.input.now c.try_items.new.run.items c.new-run.result.items c.deref.result.now (meaning c.in_ok-state.state)
     c.in_ok-try_items.ensures.run c.new-run.ensures.items c.in_ok-state.ensures.reset (c.deref.ensures.value ∙ c.in_ok-coming.ensures))
+
+pub overflow_add-way : goal.overflow_add-way
+overflow_add-way c =
+    let (output, b) = c.requires in
+    let within = before-within c.args.way.now.pipeline.now c.facts.ensures c.args.way.now.before c.args.way.now.input.now (BothRails output) b in
+    omega (arith, within, c.facts.ensures.few_banks)

@@ -38,3 +38,9 @@ returns c = λ output b.
     c.in_ok-try_items.ensures.run c.new-run.ensures.items started are)
     (c.in_ok-try_items.ensures.tried ∙ (λ i. tried p (started i) (are i)))
     (subst (GoesToStop p now first) (sym c.from_vec.ensures) c.in_ok-push_stop.ensures)
+
+pub overflow_add-way : goal.overflow_add-way
+overflow_add-way c =
+    let (output, b) = c.requires in
+    let within = before-within c.args.way.now.pipeline.now c.facts.ensures c.args.way.now.before c.args.way.now.input.now (NoRail output) b in
+    omega (arith, within, c.facts.ensures.few_banks)

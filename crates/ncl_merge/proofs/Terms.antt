@@ -1,7 +1,7 @@
 -- What the proofs of this crate take from the library and from other crates, and the terms that they speak of, passed on.
 pub use Rattle.ncl_base.proofs.Growing.{Contains-filter_map, Contains-filter_map_of, filter_map-more, map_push, split_at, sum_by-map}
 pub use Rattle.ncl_base.proofs.Joined.{Member-flat_map, length-join_with_byte, member_of_flat_map}
-pub use Rattle.ncl_base.proofs.Lists.{AllZip-from_places, Differ, pairs-head, pairs-tail}
+pub use Rattle.ncl_base.proofs.Lists.{AllZip-from_places, Differ, pairs-head, pairs-tail, take-written}
 pub use Rattle.ncl_base.proofs.Members.{All-from_members, Contains-from_Member, Contains-from_slice_get, Member, Member-append_cases, Member-append_left, Member-append_right, Member-filter, Member-from_Contains, Member-get_or, Member-map, count_from_member, here, list_any-from_member, member-found, member_cases, member_from_count, member_from_list_any, member_of_filter, member_of_map, slice_get-from_Contains, slice_get-some, there}
 pub use Rattle.ncl_base.proofs.Places.{AllZip-back, at_map, at_of_map, push_cases}
 pub use Rattle.ncl_base.proofs.Tests.{All-member, AllPairs-append, list_all-member, map-same, same_from_both}

@@ -23,6 +23,6 @@ same_compile_status files file merge =
     IsReadReply-alike AreRefusedModels AreModelsText (λ models. IsModelsReply models merge) (λ status other text line. status ≡ other) (λ models. IsModelsReply models merge)
     (λ bytes text line none none'. refl) (λ bytes text models none said. refused_models_none bytes models none said)
     (λ bytes models models' said said' status other text line reply reply'.
-        let same : models ≡ models' = one_models bytes models models' said said' in
-        models_status models' merge (subst (λ ms. IsModelsReply ms merge status text) same reply) reply')
+    let same : models ≡ models' = one_models bytes models models' said said' in
+    models_status models' merge (subst (λ ms. IsModelsReply ms merge status text) same reply) reply')
     files file

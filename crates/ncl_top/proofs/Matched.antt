@@ -52,9 +52,9 @@ module _ (files : Files) (p q : PipelineData) (alike : circuit_of p ≡ circuit_
       IsReadReply-alike AreRefusedModels AreModelsText (λ models. IsMatched (circuit_of p) models limit) SameReply (λ models. IsMatched (circuit_of q) models limit)
       (λ bytes text line none none'. (refl, refused_models_once bytes none none')) (λ bytes text models none said. refused_models_none bytes models none said)
       (λ bytes models models' said said' status other text line reply reply'.
-          let one : models ≡ models' = one_models bytes models models' said said' in
-          one_matched (circuit_of q) models' limit
-          (subst (λ c. IsMatched c models' limit status text) alike (subst (λ ms. IsMatched (circuit_of p) ms limit status text) one reply)) reply')
+      let one : models ≡ models' = one_models bytes models models' said said' in
+      one_matched (circuit_of q) models' limit
+      (subst (λ c. IsMatched c models' limit status text) alike (subst (λ ms. IsMatched (circuit_of p) ms limit status text) one reply)) reply')
       files blif
 
 -- the files determine the status and the text

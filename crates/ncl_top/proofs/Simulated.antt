@@ -94,8 +94,8 @@ module _ (p q : PipelineData) (same : p.netlist ≡ q.netlist) (shape_p : Shape 
         IsReadReply-alike (AreRefusedDelays q.netlist) (AreDelaysText q.netlist) (λ d. IsWordsReply (Some files) p d words vcd) SameReply (λ d. IsWordsReply (Some files) q d words vcd)
         (λ bytes text line none none'. (refl, refused_delays_once q.netlist bytes none none')) (λ bytes text d none said. refused_delays_none q.netlist bytes d none said)
         (λ bytes d d' said said' status other text line reply reply'.
-            let one : d ≡ d' = said.stated ∙ sym said'.stated in
-            one_words_reply d' words vcd (subst (λ x. IsWordsReply (Some files) p x words vcd status text) one reply) reply')
+        let one : d ≡ d' = said.stated ∙ sym said'.stated in
+        one_words_reply d' words vcd (subst (λ x. IsWordsReply (Some files) p x words vcd status text) one reply) reply')
         files delays (subst (λ n. IsReadReply (Some files) delays (AreRefusedDelays n) (AreDelaysText n) (λ d. IsWordsReply (Some files) p d words vcd) status text) same one) two
 
 -- the files determine the status and the text

@@ -1,6 +1,6 @@
-use Rattle.ncl_merge.proofs.Terms.{List, StageData, [], false, get_or, is_driven, is_stage_net, list_any, list_any-append, or-false, take, take_all, take_more, ℕ, ◌++◌, ◌+◌, ◌||◌, ◌∙◌, ◌∷◌, ◌≡◌}
+use Rattle.ncl_merge.proofs.Terms.{List, StageData, [], false, get_or, is_driven, is_stage_net, list_any, list_any-append, or-false, take, take-written, take_all, take_more, ℕ, ◌++◌, ◌+◌, ◌||◌, ◌∙◌, ◌∷◌, ◌≡◌}
 use Rattle.ncl_merge.proofs.Choices.{AreStageNets}
-use Rattle.ncl_merge.proofs.FoldingSteps.{All, StageCell, ap, arith, length, subst, sym, ◌<◌, item-at, stage-inside, whole}
+use Rattle.ncl_merge.proofs.FoldingSteps.{All, StageCell, ap, arith, length, subst, sym, ◌<◌, item-at, stage-inside}
 use Rattle.ncl_merge.proofs.rebuilding.stage_nets.Goals as goal
 
 pub mark-requires : goal.mark-requires
@@ -36,7 +36,7 @@ loop-stage-preserved c =
           let old : get_or c.deref_mut.result.now net false ≡ is_stage_net net (take k p.stages) = ap (λ l. get_or l net false) c.deref_mut.ensures.value ∙ c.loop-stage.invariant.each net lt in
           c.mark.ensures net (omega (arith, lt, sized, c.mark.auto.marks)) ∙ (λ i. old i || is_driven net (c.cells_of.ensures i)) ∙ one_more net p.stages k s (omega (arith, all, c.loop-stage-test.true)) (c.stage-item.is ∙ ap (λ l. get_or l k s) items);
     } in
-    subst (AreStageNets p.netlist p.stages (k + 1)) (sym (whole c.loop-stage.marks.len c.mark.new.marks marks c.loop-stage.marks.ok.0 many)) at_each
+    subst (AreStageNets p.netlist p.stages (k + 1)) (sym (take-written c.loop-stage.marks.len c.mark.new.marks marks c.loop-stage.marks.ok.0 many)) at_each
 
 pub returns : goal.returns
 returns c =

@@ -25,7 +25,7 @@ loop-place-preserved g c =
 pub loop-place-init : goal.loop-place-init
 loop-place-init g c = record {
   kept = keeps_all (g.P.Space.meaning c.args.space.now) c.facts.ensures;
-  have = subst (λ refs. HaveTables (g.P.Space.meaning c.args.space.now) refs []) (sym c.in_ok-lows.ensures.items) (record { live = All-nil (IsLive (g.P.Space.meaning c.args.space.now)); tables = refl; });
+  have = subst (λ refs. HaveTables (g.P.Space.meaning c.args.space.now) refs []) (sym c.in_ok-lows.ensures.items) (record { live = All-nil (IsLive (g.P.Space.meaning c.args.space.now)); tables = refl });
 }
 
 pub low_ref-requires-clause-place : goal.low_ref-requires-clause-place

@@ -1,25 +1,10 @@
 -- The dual of each gate makes the complement from the complements: the whole table is computed.
-use Rattle.ncl_gates.proofs.Terms.{Bool, IsDual, Kind, List, Th12, [], and_parts, arith, arity_of, crossed, dual_of, dual_pins, false, is_crossed, length, map, not, refl, set_of, suc, true, zero, ℕ, ◌&&◌, ◌∷◌, ◌≡◌}
+use Rattle.ncl_gates.proofs.Terms.{Bool, IsDual, Kind, List, Th12, [], and_parts, arith, arity_of, at_all, beq, booleans_Decides, crossed, dual_of, dual_pins, false, is_crossed, length, map, not, refl, set_of, suc, true, zero, ℕ, ◌∷◌, ◌≡◌}
 use Rattle.std.specs.Prelude.{if◌then◌else◌}
 use Rattle.ncl_gates.proofs.Table.{every_kind}
 
--- whether two values are one, as a test that computes
-abbrev same : Bool → Bool → Bool
-same true other = other
-same false other = not other
-
-same-equal : (x y : Bool) → same x y ≡ true → x ≡ y
-same-equal true true is = refl
-same-equal false false is = refl
-same-equal true false is = absurd cc
-same-equal false true is = absurd cc
-
--- a test at all values of so many pins
-abbrev at_all : ℕ → (List Bool → Bool) → Bool
-at_all zero test = test []
-at_all (suc n) test = at_all n (λ ins. test (true ∷ ins)) && at_all n (λ ins. test (false ∷ ins))
-
-at_all-holds : (n : ℕ) (test : List Bool → Bool) → at_all n test ≡ true → (ins : List Bool) → length ins ≡ n → test ins ≡ true
+-- a test at all values holds at each
+pub at_all-holds : (n : ℕ) (test : List Bool → Bool) → at_all n test ≡ true → (ins : List Bool) → length ins ≡ n → test ins ≡ true
 at_all-holds zero test all [] e = all
 at_all-holds zero test all (b ∷ ins) e = absurd (omega arith)
 at_all-holds (suc n) test all [] e = absurd (omega arith)
@@ -27,14 +12,14 @@ at_all-holds (suc n) test all (true ∷ ins) e = at_all-holds n (λ rest. test (
 at_all-holds (suc n) test all (false ∷ ins) e = at_all-holds n (λ rest. test (false ∷ rest)) (and_parts (at_all n (λ rest. test (true ∷ rest))) (at_all n (λ rest. test (false ∷ rest))) all).1 ins (omega arith)
 
 abbrev is_dual_at : Kind → List Bool → Bool
-is_dual_at kind ins = same (set_of (dual_of kind) (dual_pins kind (map not ins))) (not (set_of kind ins))
+is_dual_at kind ins = beq (set_of (dual_of kind) (dual_pins kind (map not ins))) (not (set_of kind ins))
 
 duals_pass : (kind : Kind) → at_all (arity_of kind) (is_dual_at kind) ≡ true
 duals_pass kind = every_kind (λ k. at_all (arity_of k) (is_dual_at k)) refl kind
 
 -- on the complements the dual is the complement
 pub dual-set : (kind : Kind) → IsDual kind
-dual-set kind ins e = same-equal (set_of (dual_of kind) (dual_pins kind (map not ins))) (not (set_of kind ins)) (at_all-holds (arity_of kind) (is_dual_at kind) (duals_pass kind) ins e)
+dual-set kind ins e = (booleans_Decides (set_of (dual_of kind) (dual_pins kind (map not ins))) (not (set_of kind ins))).0 (at_all-holds (arity_of kind) (is_dual_at kind) (duals_pass kind) ins e)
 
 -- the dual has as many inputs
 pub dual-arity : (kind : Kind) → arity_of (dual_of kind) ≡ arity_of kind

@@ -1,6 +1,6 @@
 -- The laws of the set functions. Only one fact about the table is computed, that each product has pins
 -- of its gate; the rest follows from the form, a sum of products.
-use Rattle.ncl_gates.proofs.Terms.{A, Ack, AllPass-from_list_all, B, Bool, C, CellKind, D, Gate, HasHysteresis, HasProducts, IsConjunction, IsDisjunction, IsMonotone, IsProductWithin, Kind, List, Pin, Register, RegisterData, Th12, Th13, Th14, Th22, Th33, Th44, [], all_high, and_left, and_parts, ap, arith, arity_of, at_pin, false, get_or, if◌then◌else◌, length, list_all, list_all-from_AllPass, list_any, list_any_at, list_any_none, ltb, ltb-true, next_of_cell, or_parts, place_of, products, refl, set_of, slice_index_or, some_high, suc, take, true, zero, ℕ, ◌&&◌, ◌+◌, ◌<◌, ◌||◌, ◌∙◌, ◌∷◌, ◌≡◌, ◌≢◌}
+use Rattle.ncl_gates.proofs.Terms.{A, Ack, AllPass-from_list_all, B, Bool, C, CellKind, D, Gate, HasHysteresis, HasProducts, IsConjunction, IsDisjunction, IsMonotone, IsProductWithin, Kind, List, Pin, Register, RegisterData, Th12, Th13, Th14, Th22, Th33, Th44, [], all_high, and-true, and_left, and_parts, ap, arith, arity_of, at_pin, false, get_or, if◌then◌else◌, length, list_all, list_all-from_AllPass, list_any, list_any_at, list_any_none, ltb, ltb-true, next_of_cell, or-false, or_parts, place_of, products, refl, set_of, slice_index_or, some_high, suc, take, true, zero, ℕ, ◌&&◌, ◌+◌, ◌<◌, ◌||◌, ◌∙◌, ◌∷◌, ◌≡◌, ◌≢◌}
 use Rattle.std.specs.List.{All}
 use Rattle.ncl_gates.proofs.ListTests.{list_all_more, list_any_more}
 use Rattle.ncl_gates.proofs.Table.{every_kind}
@@ -107,16 +107,6 @@ next_of-hysteresis kind = record {
   keeps = λ ins old unset high. ap (λ b. if b then true else (if some_high ins then old else false)) unset ∙ ap (λ b. if b then old else false) high;
 }
 
--- 0 adds nothing
-or_false : (b : Bool) → (b || false) ≡ b
-or_false true = refl
-or_false false = refl
-
--- 1 takes nothing away
-and_true : (b : Bool) → (b && true) ≡ b
-and_true true = refl
-and_true false = refl
-
 -- what holds of any two inputs holds of each list of two
 pub of_two : (P : List Bool → Type 0) → ((a b : Bool) → P (a ∷ b ∷ [])) → (ins : List Bool) → length ins ≡ 2 → P ins
 of_two P here [] len = absurd (omega arith)
@@ -139,23 +129,23 @@ of_four P here = of_more 3 P (λ a. of_three (λ rest. P (a ∷ rest)) (here a))
 
 -- TH22, TH33 and TH44 are the conjunctions of their inputs
 pub set_of-Th22 : IsConjunction Th22
-set_of-Th22 = of_two (λ ins. set_of Th22 ins ≡ all_high ins) (λ a b. or_false _)
+set_of-Th22 = of_two (λ ins. set_of Th22 ins ≡ all_high ins) (λ a b. or-false _)
 
 pub set_of-Th33 : IsConjunction Th33
-set_of-Th33 = of_three (λ ins. set_of Th33 ins ≡ all_high ins) (λ a b c. or_false _)
+set_of-Th33 = of_three (λ ins. set_of Th33 ins ≡ all_high ins) (λ a b c. or-false _)
 
 pub set_of-Th44 : IsConjunction Th44
-set_of-Th44 = of_four (λ ins. set_of Th44 ins ≡ all_high ins) (λ a b c d. or_false _)
+set_of-Th44 = of_four (λ ins. set_of Th44 ins ≡ all_high ins) (λ a b c d. or-false _)
 
 -- TH12, TH13 and TH14 are the disjunctions of their inputs
 pub set_of-Th12 : IsDisjunction Th12
-set_of-Th12 = of_two (λ ins. set_of Th12 ins ≡ some_high ins) (λ a b. rw (and_true a, and_true b) refl)
+set_of-Th12 = of_two (λ ins. set_of Th12 ins ≡ some_high ins) (λ a b. rw (and-true a, and-true b) refl)
 
 pub set_of-Th13 : IsDisjunction Th13
-set_of-Th13 = of_three (λ ins. set_of Th13 ins ≡ some_high ins) (λ a b c. rw (and_true a, and_true b, and_true c) refl)
+set_of-Th13 = of_three (λ ins. set_of Th13 ins ≡ some_high ins) (λ a b c. rw (and-true a, and-true b, and-true c) refl)
 
 pub set_of-Th14 : IsDisjunction Th14
-set_of-Th14 = of_four (λ ins. set_of Th14 ins ≡ some_high ins) (λ a b c d. rw (and_true a, and_true b, and_true c, and_true d) refl)
+set_of-Th14 = of_four (λ ins. set_of Th14 ins ≡ some_high ins) (λ a b c d. rw (and-true a, and-true b, and-true c, and-true d) refl)
 
 -- the gates of two pins
 pub or_gate : (a b : Bool) → set_of Th12 (a ∷ b ∷ []) ≡ (a || b)

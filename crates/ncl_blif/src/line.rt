@@ -13,7 +13,7 @@ use std::alloc::Global;
 use std::marker::Model;
 
 /// A line that has fields: its number, and the fields.
-#[derive(Drop, Debug)]
+#[derive(Drop)]
 pub(crate) struct Line<'t, 'a> {
     number: u32,
     fields: &'t [&'a [u8]],

@@ -26,7 +26,7 @@ pub(crate) struct Bucket {
 }
 
 /// Where the walk of a key ends: at its index, or at a bucket that is free, or nowhere where none is free.
-#[derive(Clone, Copy, Debug)]
+#[derive(Clone, Copy)]
 pub(crate) enum End {
     Found(usize),
     Free(usize),

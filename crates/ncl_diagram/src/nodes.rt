@@ -18,7 +18,7 @@ use std::sync::ledger::Ledger;
 const MOST_NODE_REFS: usize = 4_294_967_294;
 
 /// A node: the bit that it reads, and where it goes on from a 0 and from a 1.
-#[derive(Clone, Copy, Debug, PartialEq, Eq)]
+#[derive(Clone, Copy, PartialEq, Eq)]
 pub(crate) struct Node {
     pub(crate) bit: u8,
     pub(crate) low: Ref,

@@ -69,7 +69,7 @@ impl Sources {
 }
 
 /// How a function changes where an input rises.
-#[derive(Clone, Copy, Debug)]
+#[derive(Clone, Copy)]
 enum Way {
     Stays,
     Rises,

@@ -11,7 +11,7 @@ use ncl_gates::Kind;
 use ncl_space::{Ref, Space, SpaceFault};
 
 /// A function of words and its complement, by their names in a space.
-#[derive(Clone, Copy, Debug, Default, PartialEq, Eq)]
+#[derive(Clone, Copy, Default, PartialEq, Eq)]
 pub struct Pair {
     /// Where the function is 1.
     pub one: Ref,

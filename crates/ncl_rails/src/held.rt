@@ -15,7 +15,7 @@ use ncl_template::Waits;
 
 /// What shows that an output waits for a source: the place of an output of it, the number of a node that waits for it at
 /// every word, or those of nodes of which one waits for it at each word of what they read.
-#[derive(Clone, Copy, Debug)]
+#[derive(Clone, Copy)]
 pub(crate) enum Cover {
     Output(usize),
     Waiter(usize),

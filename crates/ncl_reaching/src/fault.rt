@@ -11,7 +11,7 @@ pub(crate) enum Fault {
 }
 
 /// A fault, and an input that brings a word which shows it.
-#[derive(Debug, Drop)]
+#[derive(Drop)]
 pub(crate) struct Found {
     pub(crate) fault: Fault,
     pub(crate) input: Word,

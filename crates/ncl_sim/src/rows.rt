@@ -13,7 +13,7 @@ use ncl_shape::{Item, Pipeline};
 use std::alloc::Global;
 
 /// What a look at a cell needs of it, in 32 bytes.
-#[derive(Clone, Copy, Debug)]
+#[derive(Clone, Copy)]
 pub(crate) struct Row {
     /// The next values of the cell, as `CellKind::next_word` has them.
     pub(crate) word: u32,

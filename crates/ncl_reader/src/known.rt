@@ -19,7 +19,7 @@ use ncl_base::Memory;
 use std::alloc::Global;
 
 /// The names that stand: how they were declared, which have the form of a bit's name, and which a connection used.
-#[derive(Debug, Drop)]
+#[derive(Drop)]
 pub(crate) struct Known<'a> {
     pub ranges: Ranges<'a>,
     pub bits: KeptBits<'a>,

@@ -9,7 +9,7 @@ use std::collections::BTreeMap;
 
 /// A set of names that many are added to before one is asked for: those that were added last wait in a list until they
 /// are sorted in.
-#[derive(Debug, Drop)]
+#[derive(Drop)]
 pub(crate) struct NameSet<'a> {
     sorted: BTreeMap<&'a [u8], bool>,
     waiting: Vec<&'a [u8]>,

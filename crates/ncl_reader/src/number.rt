@@ -9,7 +9,7 @@ ghost use Rattle.ncl_reader.specs.Vectors.{Covers, IsTooLarge};
 use crate::span::Span;
 
 /// A number as it is written: decimal digits.
-#[derive(Clone, Copy, Debug)]
+#[derive(Clone, Copy)]
 pub(crate) struct Number<'a> {
     pub digits: &'a [u8],
     ghost are_digits: { list_all is_ascii_digit digits.now ≡ true },

@@ -16,7 +16,7 @@ use std::alloc::Global;
 use std::collections::BTreeMap;
 
 /// The names that are declared: vectors, each with its range, and names with none.
-#[derive(Debug, Drop)]
+#[derive(Drop)]
 pub(crate) struct Ranges<'a> {
     vectors: BTreeMap<&'a [u8], Span>,
     plain: NameSet<'a>,

@@ -4,7 +4,7 @@ ghost use Rattle.std.specs.Bool.{Decides};
 ghost use Rattle.ncl_reader.specs.Vectors.{Covers, width, numbers_of};
 
 /// The first and the last number of a vector, which may fall or rise.
-#[derive(Clone, Copy, Debug, PartialEq, Eq)]
+#[derive(Clone, Copy, PartialEq, Eq)]
 pub(crate) struct Span {
     pub first: u16,
     pub last: u16,

@@ -19,6 +19,7 @@ use ncl_base::{Items, Memory, Name};
 use ncl_gates::CellKind;
 use ncl_netlist::{PartCell, Parts};
 use std::alloc::Global;
+use std::mem;
 
 /// What a step comes to: the next place, `None` where the token breaks, or want of memory.
 pub(crate) type Step = Result<Option<Place>, Memory>;
@@ -88,24 +89,19 @@ impl<'a> Draft<'a> {
         }
     }
 
-    /// The parts that a whole text says.
-    pub(crate) fn into_parts(self, alloc: Global) -> Result<Parts, Memory>
-        ensures says { (p : Partial) → HoldsAt Place.End self.entry p → IfOk result (SaysAt p) }
-        ensures differ { (p : Partial) → HoldsAt Place.End self.entry p
+    /// The parts that a whole text says, whose cells leave the draft.
+    pub(crate) fn take_parts(&mut self, alloc: Global) -> Result<Parts, Memory>
+        ensures says { (p : Partial) → HoldsAt Place.End self.old p → IfOk result (SaysAt p) }
+        ensures differ { (p : Partial) → HoldsAt Place.End self.old p
             → IfOk result (λ parts. AllDiffer (port_names parts)) }
-        ensures few { (p : Partial) → HoldsAt Place.End self.entry p
+        ensures few { (p : Partial) → HoldsAt Place.End self.old p
             → IfOk result (λ parts. length parts.ports ≤ length (spelled p) + 65536) }
     {
-        let Draft {
-            title,
-            header,
-            known,
-            cells,
-            ..
-        } = self;
-        let ports = header.ports(alloc, &known.ranges)?;
+        let ports = self.header.ports(alloc, &self.known.ranges)?;
+        let module = Name::from_bytes(alloc, self.title)?;
+        let cells = mem::replace(&mut self.cells, Vec::new(alloc));
         Ok(Parts {
-            module: Name::from_bytes(alloc, title)?,
+            module,
             ports: Items::from_vec(ports),
             cells: Items::from_vec(cells),
         })

@@ -64,8 +64,21 @@ fn read_parts(alloc: Global, bytes: &[u8]) -> Result<Parts, NetFault>
     ensures fault { IfErr result (IsReadFault bytes.now) }
 {
     let mut draft = Draft::new(alloc);
-    read_tokens(alloc, bytes, &mut draft)?;
-    Ok(draft.into_parts(alloc)?)
+    read_into(alloc, bytes, &mut draft)
+}
+
+/// Reads a text to its end into a draft of which nothing was read, and takes the parts out that it says.
+///
+/// Fails at the first token that breaks, and where memory is refused. Costs as `read_netlist` does.
+fn read_into<'a>(alloc: Global, bytes: &'a [u8], draft: &mut Draft<'a>) -> Result<Parts, NetFault>
+    requires { HoldsAt Place.Module draft.old start }
+    ensures parts { IfOk result (Reads bytes.now) }
+    ensures differ { IfOk result (λ parts. AllDiffer (port_names parts)) }
+    ensures few { IfOk result (λ parts. length parts.ports ≤ length bytes.now + 65536) }
+    ensures fault { IfErr result (IsReadFault bytes.now) }
+{
+    read_tokens(alloc, bytes, draft)?;
+    Ok(draft.take_parts(alloc)?)
 }
 
 /// Reads a text to its end into a draft of which nothing was read.

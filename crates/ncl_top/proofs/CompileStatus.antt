@@ -1,7 +1,7 @@
 -- The bytes of a file determine the status of what `compile` replies to it.
 use Rattle.ncl_top.proofs.Terms.{All-contains, AreModelsText, AreRefusedModels, Bool, CanBeCompiled, CompileFault, Contains-from_slice_get, Files, IsCompileFault, IsCompiledFile, IsModelsReply, IsReadReply-alike, IsSlim, List, Model, Some, TooLong, TooMany, TooWide, arith, compiled, refl, subst, too_large, ℕ, ◌≡◌, ◌≢◌}
 use Rattle.ncl_compile.specs.declared.fault.CompileFault.TheVariants.{Memory}
-use Rattle.ncl_top.proofs.ModelsText.{one_models, refused_models_none}
+use Rattle.ncl_sim_match.proofs.ModelsText.{one_models, refused_models_none}
 
 -- models that can be compiled have no fault but want of memory
 no_fault : (models : List Model) → CanBeCompiled models → (fault : CompileFault) → fault ≢ Memory → IsCompileFault models fault → ⊥

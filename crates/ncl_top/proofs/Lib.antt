@@ -1,10 +1,6 @@
 mod Terms
-mod ModelsText
 mod CompileStatus
 mod PlainNames
-mod WordsRead
-mod Simulated
-mod Matched
 mod Sameness
 mod Saying
 mod Ends
@@ -14,6 +10,5 @@ mod Compiled
 mod OneFunction
 mod Running
 mod Demonstrated
-mod SimReplies
 mod MergedModels
 mod Answered

@@ -1,7 +1,7 @@
 -- A pipeline of sound stages runs through at whatever delays.
 use Rattle.ncl_top.proofs.Terms.{Answer, AnswersExactly, AreWordsOf, Arguments, Bool, ComesFrom, DeliversAll, IsRunReply, IsTrue, List, PipelineData, Quiet, Ran, SimulatesWhatWorks, SinkState, Some, SourceState, TraceData, ap, arguments_determine_status, arguments_determine_text, arith, bytes_of, command_of, end_status, inl, inr, length, nat_tests, reading, refl, replied, run_status, run_text, sim, some_run, sound-delivers, sound-ends_quiet, subst, sym, true, words_due, ℕ, ◌==◌, ◌∙◌, ◌≡◌}
 use Rattle.ncl_top.proofs.Ends.{answers_exactly}
-use Rattle.ncl_top.proofs.WordsRead.{words_fit}
+use Rattle.ncl_sim_match.proofs.WordsRead.{words_fit}
 
 -- a run that ends quiet with every word delivered that is due has status 0
 whole_status : (p : PipelineData) (t : TraceData) (offered : List (List Bool)) → t.end ≡ Quiet → length t.delivered ≡ words_due p offered → run_status p t offered ≡ 0

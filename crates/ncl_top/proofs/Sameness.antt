@@ -1,8 +1,8 @@
 -- The arguments and the files have at most one status, and at most one text where they determine it.
 use Rattle.ncl_top.proofs.Terms.{Answer, Arguments, Bool, Command, Files, IsCheckReply, IsFileReply, IsReply, IsTrue, List, None, Some, ap, arguments_determine_status, arguments_determine_text, both_ways, check, command_of, compile, demo, determines_status, determines_text, false, matching, not, not_understood, refl, replied, same_reply, sim, status_of, subst, sym, true, ℕ, ◌∙◌, ◌≡◌}
 use Rattle.ncl_top.proofs.CompileStatus.{same_compile_status}
-use Rattle.ncl_top.proofs.Matched.{one_match_reply}
-use Rattle.ncl_top.proofs.Simulated.{one_sim_reply}
+use Rattle.ncl_sim_match.proofs.Matched.{one_match_reply}
+use Rattle.ncl_sim_match.proofs.Simulated.{one_sim_reply}
 
 -- the bytes that both replies are to
 same_file_reply : (files : Files) (file : List ℕ) (limit : ℕ) (why : Bool) (status other : ℕ) (text line : List ℕ) → IsFileReply (Some files) file limit why status text → IsFileReply (Some files) file limit why other line → (status ≡ other) × (why ≡ false → text ≡ line)

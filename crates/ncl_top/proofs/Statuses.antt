@@ -1,7 +1,7 @@
 -- The statuses of failed devices come from failed devices alone.
 use Rattle.ncl_top.proofs.Terms.{Accepted, Answer, AreDelaysText, AreModelsText, AreRefusedDelays, AreRefusedModels, AreRefusedWords, AreWordsText, Arguments, Bool, CameOut, Circuit, Command, DelaysData, End, Files, Hazard, IsDelaysReply, IsDemoReply, IsMatched, IsModelsMatched, IsModelsReply, IsPipelineText, IsReadReply, IsReadReply-each, IsRefusedText, IsReply, IsRunReply, IsWordsReply, List, Model, NoPipeline, Option, Outcome, Over, PipelineData, Quiet, Ran, Refused, Rose, Says, SinkState, SourceState, Unjudged, answered, arith, check, circuit_of, compile, compiled, cut_short, demo, end_status, false, length, matching, no_memory, not_understood, read_failed, replied, sim, status_of, subst, sym, too_large, true, whole, ℕ, ◌≡◌, ◌≢◌}
 use Rattle.ncl_top.specs.Demonstrating as demonstrating
-use Rattle.ncl_top.specs.Matching as compares
+use Rattle.ncl_sim_match.specs.Matching as compares
 
 -- neither that of a source that failed nor that of a sink that did
 abbrev IsOfNoFault : ℕ → Type 0

@@ -1,36 +1,18 @@
 -- What `compile` replies to a file.
-use Rattle.std.specs.Prelude.{◌≡◌, ◌≢◌, ℕ, ◌<◌, ◌≤◌, Bool, true, false, List, length, Option, codes}
+use Rattle.std.specs.Prelude.{◌≡◌, ◌≢◌, ℕ, Bool, true, false, List, Option}
 use Rattle.ncl_base.specs.Files.{Files}
-use Rattle.ncl_base.specs.declared.source.TheConstants.{MOST_BYTES}
-use Rattle.ncl_blif.specs.declared.fault.BlifFault.{BlifFault}
 use Rattle.ncl_blif.specs.declared.model.Model.{Model}
-use Rattle.ncl_blif.specs.Model.{AreModels}
-use Rattle.ncl_blif.specs.Answer.{IsRead, IsRefused}
 use Rattle.ncl_netlist.specs.Netlist.{NetlistData}
 use Rattle.ncl_writer.specs.Text.{text_of}
 use Rattle.ncl_compile.specs.declared.fault.CompileFault.{CompileFault}
 use Rattle.ncl_compile.specs.declared.fault.CompileFault.TheVariants.{Memory}
-use Rattle.ncl_lines.specs.Line.{line}
-use Rattle.ncl_report.specs.BlifText.{blif_line}
 use Rattle.ncl_top.specs.CompileText.{compile_line}
 use Rattle.ncl_network.specs.Size.{CanBeCompiled}
 use Rattle.ncl_compile.specs.TooLarge.{IsCompileFault}
 use Rattle.ncl_compile.specs.Compiled.{Compiled}
 use Rattle.ncl_merge.specs.Merged.{Merged}
 use Rattle.ncl_reply.specs.Replies.{IsReadReply}
-
--- the bytes say these models
-pub record AreModelsText (bytes : List ℕ) (models : List Model) : Type 0 where
-  pub few : length bytes ≤ MOST_BYTES
-  pub read : IsRead bytes models
-  pub are : AreModels models
-
--- the bytes say no models, and this line tells why
-pub data AreRefusedModels (bytes : List ℕ) : List ℕ → Type 0 where
-  -- a file has at most 16,777,216 bytes
-  too_long : MOST_BYTES < length bytes → AreRefusedModels bytes (line (codes "blif: too long"))
-  -- the text is refused at its first line or model that breaks
-  unread : length bytes ≤ MOST_BYTES → (fault : BlifFault) → IsRefused bytes fault → AreRefusedModels bytes (blif_line fault)
+use Rattle.ncl_sim_match.specs.ModelsText.{AreModelsText, AreRefusedModels}
 
 -- the text that is written where a netlist was compiled from models: its own, or that of one that is merged from it and is
 -- compiled from the models too

@@ -8,11 +8,12 @@ ghost use Rattle.ncl_reply.specs.Devices.{IsServed};
 ghost use Rattle.ncl_reply.specs.Replies.{Replies};
 
 use crate::demonstrating::demonstrate;
-use crate::files::{Other, Running, check_file, compile_file, match_files, sim_files};
+use crate::files::{check_file, compile_file};
 use ncl_base::Source;
 use ncl_check::Judging;
 use ncl_command::Command;
 use ncl_reply::{Fault, Reply};
+use ncl_sim_match::{Other, Running, match_files, sim_files};
 use ncl_verdict::Judge;
 use std::thread::Threads;
 

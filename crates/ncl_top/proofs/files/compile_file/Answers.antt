@@ -1,5 +1,5 @@
 use Rattle.ncl_top.proofs.Terms.{AreModelsText, AreRefusedModels, IsCompiledFile, IsModelsReply, IsReadReply-refused, reading, subst}
-use Rattle.ncl_top.proofs.SimReplies.{gives_from}
+use Rattle.ncl_sim_match.proofs.SimReplies.{gives_from}
 use Rattle.ncl_top.proofs.files.compile_file.Goals as goal
 
 pub returns-in_err-models-clause-replies : goal.returns-in_err-models-clause-replies

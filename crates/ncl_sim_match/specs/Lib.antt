@@ -1,0 +1,3 @@
+pub mod ModelsText
+pub mod Simulating
+pub mod Matching

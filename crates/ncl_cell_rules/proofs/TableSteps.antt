@@ -52,6 +52,10 @@ drivers_whole n is limit drivers all below = record {
 pub cell_read : (n : NetlistData) (cells : List Cell) (k : ℕ) (c : Cell) → cells ≡ n.cells → k < length cells → c ≡ get_or cells k c → CellAt n k c
 cell_read n cells k c are lt read = ap (λ (l : List Cell). slice_get l k) (sym are) ∙ slice_get-get_or cells k c lt ∙ ap Some (sym read)
 
+-- an entry that leads to a place isn't empty
+pub not_both : (entry : Option ℕ) (place : ℕ) → entry ≡ Some place → entry ≡ None → ⊥
+not_both entry place some none = let same : Some place ≡ None = sym some ∙ none in absurd cc
+
 -- what an entry of the table of drivers leads to: a place of a cell, and the cell that is read there drives the net
 module _ (n : NetlistData) (drivers : List (Option ℕ)) (are : AreDrivers n drivers) (net place : ℕ) where
   pub driver_within : (cells : List Cell) → cells ≡ n.cells → driver_at drivers net ≡ Some place → place < length cells

@@ -1,16 +1,14 @@
-use Rattle.ncl_cell_rules.proofs.Terms.{Cell, Contains-from_slice_get, ap, is_data_register, slice_get-from_Contains, sym, ◌∙◌}
+use Rattle.ncl_cell_rules.proofs.Terms.{false≢true, Cell, Contains-from_slice_get, ap, is_data_register, slice_get-from_Contains, sym, ◌∙◌}
 use Rattle.ncl_cell_rules.proofs.Drivers.{same_driver}
-use Rattle.ncl_cell_rules.proofs.TableSteps.{driver_within, driver_is}
+use Rattle.ncl_cell_rules.proofs.TableSteps.{driver_within, driver_is, not_both}
 use Rattle.ncl_cell_rules.proofs.pairing.is_data_behind.Goals as goal
 
 pub returns-in_default : goal.returns-in_default
 returns-in_default c = (
-  (λ never. absurd cc),
+  (λ never. absurd (false≢true never)),
   λ behind.
       let (place, at) = slice_get-from_Contains c.args.netlist.now.cells behind.cell behind.is_cell in
-      let said = c.requires.drivers.driven c.args.net.0 place (behind.cell, at, behind.out) in
-      let none = c.in_default.is in
-      absurd cc,
+      absurd (not_both _ place (c.requires.drivers.driven c.args.net.0 place (behind.cell, at, behind.out)) c.in_default.is),
 )
 
 pub bounds-cells-place : goal.bounds-cells-place

@@ -1,4 +1,4 @@
-use Rattle.ncl_cell_rules.proofs.Terms.{A, B, Bool, IsDataBehind, List, NetId, OnPin, and_parts, ap, arith, both_ways, eq-eqb, false, false_from_ne_true, get_or, not, refl, same_unless, subst, sym, true, ◌||◌, ◌∙◌, ◌≡◌}
+use Rattle.ncl_cell_rules.proofs.Terms.{false≢true, A, B, Bool, IsDataBehind, List, NetId, OnPin, and_parts, ap, arith, both_ways, eq-eqb, false, false_from_ne_true, get_or, not, refl, same_unless, subst, sym, true, ◌||◌, ◌∙◌, ◌≡◌}
 use Rattle.ncl_cell_rules.proofs.PinNumbers.{no_net, ack_on}
 use Rattle.ncl_cell_rules.proofs.BitTests.{behind_pin, one_bit_of, banks_are_one, cells_differ, data_behind, data_is_one}
 use Rattle.ncl_cell_rules.proofs.pairing.reads_one_bit.Goals as goal
@@ -13,7 +13,7 @@ on_b c = ack_on c.args.netlist.now c.requires.drivers.netlist c.args.cell.now c.
 
 pub returns-in_default : goal.returns-in_default
 returns-in_default c = (
-  (λ never. absurd cc),
+  (λ never. absurd (false≢true never)),
   λ bit.
       let on = on_a (goal.at.returns-in_default c).After-deref in
       let (k, behind) = behind_pin c.args.netlist.now c.requires.drivers.netlist c.args.cell.now bit.zero A _ bit.request on bit.zero_of bit.on_a in
@@ -22,7 +22,7 @@ returns-in_default c = (
 
 pub returns-in_default-register_behind : goal.returns-in_default-register_behind
 returns-in_default-register_behind c = (
-  (λ never. absurd cc),
+  (λ never. absurd (false≢true never)),
   λ bit.
       let on = on_b (goal.at.returns-in_default-register_behind c).After-deref-2 in
       let (k, behind) = behind_pin c.args.netlist.now c.requires.drivers.netlist c.args.cell.now bit.one B _ bit.request on bit.one_of bit.on_b in
@@ -31,7 +31,7 @@ returns-in_default-register_behind c = (
 
 pub returns-then-zero-one : goal.returns-then-zero-one
 returns-then-zero-one c = (
-  (λ never. absurd cc),
+  (λ never. absurd (false≢true never)),
   λ bit.
       let at = goal.at.returns-then-zero-one c in
       absurd (cells_differ c.args.netlist.now c.requires.drivers.netlist c.args.cell.now _ _ (on_a at.After-deref) (on_b at.After-deref-2) _ _ _ _ c.in-Some.ensures.some c.in-Some-register_behind.ensures.some bit c.if-zero-one.true),
@@ -39,7 +39,7 @@ returns-then-zero-one c = (
 
 pub returns-then-ne : goal.returns-then-ne
 returns-then-ne c = (
-  (λ never. absurd cc),
+  (λ never. absurd (false≢true never)),
   λ bit.
       let at = goal.at.returns-then-ne c in
       let same = banks_are_one c.args.netlist.now c.requires.drivers.netlist c.args.cell.now _ _ (on_a at.After-deref) (on_b at.After-deref-2) _ _ _ _ c.in-Some.ensures.some c.in-Some-register_behind.ensures.some bit in

@@ -1,13 +1,11 @@
 use Rattle.ncl_cell_rules.proofs.Terms.{Cell, CellAt, Contains-from_slice_get, ap, arith, both_ways, is_register, length, subst, sym, ◌∙◌, ◌≡◌}
-use Rattle.ncl_cell_rules.proofs.TableSteps.{driver_within, driver_is}
+use Rattle.ncl_cell_rules.proofs.TableSteps.{driver_within, driver_is, not_both}
 use Rattle.ncl_cell_rules.proofs.PinNumbers.{register_pins, on_pin_of}
 use Rattle.ncl_cell_rules.proofs.pairing.register_behind.Goals as goal
 
 pub returns-in_default-clause-none : goal.returns-in_default-clause-none
 returns-in_default-clause-none c = λ place request behind.
-    let said = c.requires.drivers.driven c.args.net.0 place (behind.cell, behind.at, behind.out) in
-    let none = c.in_default.is in
-    cc
+    not_both _ place (c.requires.drivers.driven c.args.net.0 place (behind.cell, behind.at, behind.out)) c.in_default.is
 
 pub bounds-cells-place : goal.bounds-cells-place
 bounds-cells-place c = driver_within c.args.netlist.now c.args.drivers.now c.requires.drivers c.args.net.0 c.in-Some.place c.cells.result.now c.cells.ensures.cells c.in-Some.is

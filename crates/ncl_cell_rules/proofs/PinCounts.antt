@@ -1,11 +1,21 @@
 -- How many pins have a net, counted pin by pin and cell by cell.
-use Rattle.ncl_cell_rules.proofs.Terms.{Ack, Cell, CellAt, CellKind, Gate, IsNetlist, IsTable, List, NetId, NetlistData, Register, RegisterData, ack_pins_of, ap, arith, cases_lt, count_by-le-length, get_or, get_or-replicate, get_or_from_slice_get, get_or_past, inl, inr, length, length-replicate, pins_of, pins_of-few, pins_with, refl, replicate, slice_get_within, sum_by, sum_by-le, sum_by-take-le, sum_by_more, take, take_all, ℕ, ◌*◌, ◌+◌, ◌<◌, ◌∙◌, ◌≡◌, ◌≤◌}
+use Rattle.ncl_cell_rules.proofs.Terms.{Ack, Cell, CellAt, CellKind, Gate, IsNetlist, IsTable, List, NetId, NetlistData, Register, RegisterData, ack_pins_of, arith, cases_lt, count_by-le-length, get_or, get_or_past, inl, inr, length, pins_of, pins_of-few, pins_with, refl, sum_by, sum_by-le, sum_by-take-le, sum_by_more, take, ℕ, ◌*◌, ◌+◌, ◌<◌, ◌≡◌, ◌≤◌}
 use Rattle.ncl_cell_rules.proofs.ReadTables.{has_pin}
+use Rattle.ncl_cell_rules.proofs.CellTables.{Entry, HasEntries, entries_more, entries_whole}
 
--- the counts of the first k cells, of which each adds to a net's count
-pub record AreCountsOf (n : NetlistData) (pins : ℕ → Cell → ℕ) (k : ℕ) (counts : List ℕ) : Type 0 where
-  pub sized : length counts ≡ length n.nets
-  pub each : (net : ℕ) → net < length n.nets → get_or counts net 0 ≡ sum_by (pins net) (take k n.cells)
+-- how many pins of the cells a net has, of which each cell adds to the count
+abbrev pub all_pins : (ℕ → Cell → ℕ) → Entry ℕ
+all_pins pins = record {
+  none = 0;
+  of = λ net. sum_by (pins net);
+  add = λ net count c. count + pins net c;
+  of_none = λ net. refl;
+  of_more = λ net cells k c lt. sum_by_more (pins net) cells k c lt;
+}
+
+-- the counts of the first k cells
+abbrev pub AreCountsOf : NetlistData → (ℕ → Cell → ℕ) → ℕ → List ℕ → Type 0
+AreCountsOf n pins = HasEntries n (all_pins pins)
 
 -- how many pins a cell has with a net, if it is an acknowledge cell
 abbrev pub own_ack_pins : ℕ → Cell → ℕ
@@ -16,36 +26,13 @@ abbrev pub own_pins : ℕ → Cell → ℕ
 own_pins net c = pins_with net c.ins.items
 
 module _ (n : NetlistData) (pins : ℕ → Cell → ℕ) where
-  pub counts_begin : (counts : List ℕ) → counts ≡ replicate (length n.nets) 0 → AreCountsOf n pins 0 counts
-  counts_begin counts none = record {
-    sized = ap length none ∙ length-replicate (length n.nets) 0;
-    each = λ net lt. ap (λ l. get_or l net 0) none ∙ get_or-replicate (length n.nets) net 0 0 lt;
-  }
-
   -- one cell more
   pub counts_more : (k : ℕ) (c : Cell) (counts new : List ℕ) → AreCountsOf n pins k counts → CellAt n k c → length new ≡ length counts
       → ((net : ℕ) → net < length counts → get_or new net 0 ≡ get_or counts net 0 + pins net c) → AreCountsOf n pins (k + 1) new
-  counts_more k c counts new so_far at long counted = record {
-    sized = long ∙ so_far.sized;
-    each = λ net lt.
-        let within : k < length n.cells = slice_get_within n.cells k c at in
-        let sized = so_far.sized in
-        let here : pins net (get_or n.cells k c) ≡ pins net c = ap (pins net) (get_or_from_slice_get n.cells k c c at) in
-        let more : sum_by (pins net) (take (k + 1) n.cells) ≡ sum_by (pins net) (take k n.cells) + pins net (get_or n.cells k c) = sum_by_more (pins net) n.cells k c within in
-        let now : get_or new net 0 ≡ get_or counts net 0 + pins net c = counted net (omega (arith, lt, sized)) in
-        let was : get_or counts net 0 ≡ sum_by (pins net) (take k n.cells) = so_far.each net lt in
-        omega (arith, now, was, more, here);
-  }
-
-  -- a cell that adds nothing changes nothing
-  pub counts_same : (k : ℕ) (c : Cell) (counts : List ℕ) → AreCountsOf n pins k counts → CellAt n k c → ((net : ℕ) → pins net c ≡ 0) → AreCountsOf n pins (k + 1) counts
-  counts_same k c counts so_far at none = counts_more k c counts counts so_far at refl (λ net lt. let nothing = none net in omega (arith, nothing))
+  counts_more k c counts new so_far at long counted = entries_more n (all_pins pins) k c counts so_far at new long counted
 
   pub counts_whole : (k : ℕ) (counts : List ℕ) → length n.cells ≤ k → AreCountsOf n pins k counts → IsTable n 0 (λ net. sum_by (pins net) n.cells) counts
-  counts_whole k counts all so_far = record {
-    sized = so_far.sized;
-    each = λ net lt. so_far.each net lt ∙ ap (sum_by (pins net)) (take_all k n.cells all);
-  }
+  counts_whole k counts all so_far = entries_whole n (all_pins pins) k counts n.cells refl all so_far
 
   -- where a cell adds at most its pins, of which it has at most four, the counts stay small
   pub few_counts : ((net : ℕ) (c : Cell) → pins net c ≤ own_pins net c) → IsNetlist n → (k : ℕ) (counts : List ℕ) → AreCountsOf n pins k counts → (net : ℕ) → get_or counts net 0 ≤ 4 * 131072

@@ -1,6 +1,7 @@
 -- How many input pins a cell has, and that the nets on them are there.
 use Rattle.ncl_cell_rules.proofs.Terms.{All, Cell, IsAck, IsCell, IsNetlist, IsRegister, List, NetId, NetlistData, OnPin, ap, arith, get_or, get_or_from_slice_get, length, pins_of, register_pins_of, slice_get-get_or, slice_get_within, subst, sym, ℕ, ◌<◌, ◌≡◌}
 use Rattle.ncl_cell_rules.proofs.Drivers.{cell_fits}
+use Rattle.ncl_cell_rules.proofs.TableSteps.{read_is_cell}
 
 -- a net that is none
 abbrev pub no_net : NetId
@@ -35,6 +36,11 @@ module _ (n : NetlistData) (is : IsNetlist n) (c : Cell) (in_c : IsCell n c) whe
   -- the same of a list that is read in place of the pins
   pub pin_inside : (pin : ℕ) (pins : List NetId) → pins ≡ c.ins.items → pin < length c.ins.items → (get_or pins pin no_net).0 < length n.nets
   pin_inside pin pins are lt = subst (λ l. (get_or l pin no_net).0 < length n.nets) (sym are) (pin_within pin lt)
+
+-- the same of the pins of a cell that a loop reads
+pub read_pins_fit : (n : NetlistData) → IsNetlist n → (cells : List Cell) (k : ℕ) (c : Cell) → cells ≡ n.cells → k < length cells → c ≡ get_or cells k c
+    → (pins : List NetId) → pins ≡ c.ins.items → (size : ℕ) → size ≡ length n.nets → All (λ (net : NetId). net.0 < size) pins
+read_pins_fit n is cells k c same within read = pins_fit n is c (read_is_cell n cells k c same within read)
 
 -- a net on a pin of a cell is there
 pub on_pin_within : (n : NetlistData) → IsNetlist n → (c : Cell) → IsCell n c → (pin net : ℕ) → OnPin c pin net → net < length n.nets

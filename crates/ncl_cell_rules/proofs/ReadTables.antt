@@ -1,6 +1,7 @@
--- Tables of what reads a net, one pin or one cell more at a time.
-use Rattle.ncl_cell_rules.proofs.Terms.{Bool, Cell, CellAt, IsTable, List, NetId, NetlistData, ap, arith, cases_eq, eq-eqb, false, get_or, get_or-replicate, get_or-set_other, get_or-set_same, get_or_from_slice_get, inl, inr, length, length-replicate, list_any, list_any_more, ne_eqb, or-false, or_right, refl, replicate, set, slice_get_within, sym, take, take_all, true, ℕ, ◌+◌, ◌<◌, ◌||◌, ◌∙◌, ◌≡◌, ◌≤◌}
+-- Tables of what reads a net, one pin more at a time, and one cell.
+use Rattle.ncl_cell_rules.proofs.Terms.{Bool, Cell, List, NetId, ap, arith, cases_eq, eq-eqb, false, get_or, get_or-set_other, get_or-set_same, inl, inr, length, list_any, list_any_more, ne_eqb, or-false, or_right, refl, set, sym, take, true, ℕ, ◌+◌, ◌<◌, ◌||◌, ◌∙◌, ◌≡◌}
 use Rattle.std.proofs.Common.{nat_eq}
+use Rattle.ncl_cell_rules.proofs.CellTables.{Entry}
 
 -- a pin has the net
 abbrev pub has_pin : ℕ → NetId → Bool
@@ -32,40 +33,12 @@ marked_more flags was pins i d net lt within so_far =
     ∙ ap (λ b. b || nat_eq (get_or pins i d).0 net) so_far
     ∙ sym (ap (λ b. was || b) (list_any_more (has_pin net) pins i d lt) ∙ or-assoc was (list_any (has_pin net) (take i pins)) (nat_eq (get_or pins i d).0 net))
 
--- the flags that are known once the first k cells were asked by a test
-pub record AreFlagsOf (n : NetlistData) (test : ℕ → Cell → Bool) (k : ℕ) (flags : List Bool) : Type 0 where
-  pub sized : length flags ≡ length n.nets
-  pub each : (net : ℕ) → net < length n.nets → get_or flags net false ≡ list_any (test net) (take k n.cells)
-
-module _ (n : NetlistData) (test : ℕ → Cell → Bool) where
-  -- before any cell no flag is set
-  pub flags_begin : (flags : List Bool) → flags ≡ replicate (length n.nets) false → AreFlagsOf n test 0 flags
-  flags_begin flags none = record {
-    sized = ap length none ∙ length-replicate (length n.nets) false;
-    each = λ net lt. ap (λ l. get_or l net false) none ∙ get_or-replicate (length n.nets) net false false lt;
-  }
-
-  -- one cell more, whose pins were marked where the test may hold
-  pub flags_more : (k : ℕ) (c : Cell) (flags new : List Bool) → AreFlagsOf n test k flags → CellAt n k c → length new ≡ length flags
-      → ((net : ℕ) → net < length flags → get_or new net false ≡ (get_or flags net false || test net c)) → AreFlagsOf n test (k + 1) new
-  flags_more k c flags new so_far at long marked = record {
-    sized = long ∙ so_far.sized;
-    each = λ net lt.
-        let within : k < length n.cells = slice_get_within n.cells k c at in
-        let sized = so_far.sized in
-        let here : get_or n.cells k c ≡ c = get_or_from_slice_get n.cells k c c at in
-        marked net (omega (arith, lt, sized))
-        ∙ ap (λ b. b || test net c) (so_far.each net lt)
-        ∙ sym (list_any_more (test net) n.cells k c within ∙ ap (λ x. list_any (test net) (take k n.cells) || test net x) here);
-  }
-
-  -- a cell of which the test never holds changes nothing
-  pub flags_same : (k : ℕ) (c : Cell) (flags : List Bool) → AreFlagsOf n test k flags → CellAt n k c → ((net : ℕ) → test net c ≡ false) → AreFlagsOf n test (k + 1) flags
-  flags_same k c flags so_far at never = flags_more k c flags flags so_far at refl (λ net lt. sym (ap (λ b. get_or flags net false || b) (never net) ∙ or-false (get_or flags net false)))
-
-  -- after all cells the table is whole
-  pub flags_whole : (k : ℕ) (flags : List Bool) → length n.cells ≤ k → AreFlagsOf n test k flags → IsTable n false (λ net. list_any (test net) n.cells) flags
-  flags_whole k flags all so_far = record {
-    sized = so_far.sized;
-    each = λ net lt. so_far.each net lt ∙ ap (list_any (test net)) (take_all k n.cells all);
-  }
+-- whether a test holds of one of the cells
+abbrev pub any_passes : (ℕ → Cell → Bool) → Entry Bool
+any_passes test = record {
+  none = false;
+  of = λ net. list_any (test net);
+  add = λ net flag c. flag || test net c;
+  of_none = λ net. refl;
+  of_more = λ net cells k c lt. list_any_more (test net) cells k c lt;
+}

@@ -1,5 +1,5 @@
 -- Tables of nets that grow cell by cell.
-use Rattle.ncl_cell_rules.proofs.Terms.{AreDrivers, AreDriversBelow, AtCell, Bool, Cell, CellAt, Contains-from_slice_get, Drives, FailsFirst, IsCellOrder, IsNetlist, List, NetlistData, None, Option, Some, ap, arith, below_more, both_ways, cases_eq, driver_at, false, get_or, get_or-set_other, get_or-set_same, inl, inr, length, length-set, set, slice_get, slice_get-get_or, slice_get_within, subst, sym, true, ℕ, ◌+◌, ◌<◌, ◌∙◌, ◌≡◌, ◌≢◌, ◌≤◌}
+use Rattle.ncl_cell_rules.proofs.Terms.{AreDrivers, AreDriversBelow, AtCell, Bool, Cell, CellAt, Contains-from_slice_get, Drives, FailsFirst, IsCell, IsCellOrder, IsNetlist, List, NetlistData, None, Option, Some, ap, arith, below_more, both_ways, cases_eq, driver_at, false, get_or, get_or-set_other, get_or-set_same, inl, inr, length, length-set, set, slice_get, slice_get-get_or, slice_get_within, subst, sym, true, ℕ, ◌+◌, ◌<◌, ◌^◌, ◌∙◌, ◌≡◌, ◌≢◌, ◌≤◌}
 use Rattle.ncl_cell_rules.proofs.Drivers.{same_place, cell_fits}
 
 -- the table of one cell more
@@ -51,6 +51,13 @@ drivers_whole n is limit drivers all below = record {
 -- the cell that a loop over the cells reads stands at its place
 pub cell_read : (n : NetlistData) (cells : List Cell) (k : ℕ) (c : Cell) → cells ≡ n.cells → k < length cells → c ≡ get_or cells k c → CellAt n k c
 cell_read n cells k c are lt read = ap (λ (l : List Cell). slice_get l k) (sym are) ∙ slice_get-get_or cells k c lt ∙ ap Some (sym read)
+
+pub read_is_cell : (n : NetlistData) (cells : List Cell) (k : ℕ) (c : Cell) → cells ≡ n.cells → k < length cells → c ≡ get_or cells k c → IsCell n c
+read_is_cell n cells k c are lt read = Contains-from_slice_get n.cells k c (cell_read n cells k c are lt read)
+
+-- and the place is a number of 32 bits
+pub place_fits : (n : NetlistData) → IsNetlist n → (cells : List Cell) (k : ℕ) → cells ≡ n.cells → k < length cells → k < 2 ^ 32
+place_fits n is cells k are lt = omega (arith, is.few_cells, ap length are, lt)
 
 -- an entry that leads to a place isn't empty
 pub not_both : (entry : Option ℕ) (place : ℕ) → entry ≡ Some place → entry ≡ None → ⊥

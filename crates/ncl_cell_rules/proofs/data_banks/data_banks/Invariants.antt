@@ -1,6 +1,7 @@
 use Rattle.ncl_cell_rules.specs.CellTests.{data_test}
-use Rattle.ncl_cell_rules.proofs.ReadTables.{AreFlagsOf}
+use Rattle.ncl_cell_rules.proofs.CellTables.{HasEntries}
+use Rattle.ncl_cell_rules.proofs.ReadTables.{any_passes}
 use Rattle.ncl_cell_rules.proofs.data_banks.data_banks.Given as goal
 
 abbrev pub invariant-loop-cell : goal.invariant-loop-cell
-invariant-loop-cell l = AreFlagsOf l.netlist data_test l.cell-index l.flags.items
+invariant-loop-cell l = HasEntries l.netlist (any_passes data_test) l.cell-index l.flags.items

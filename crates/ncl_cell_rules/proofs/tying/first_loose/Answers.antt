@@ -1,5 +1,5 @@
-use Rattle.ncl_cell_rules.proofs.Terms.{Contains-from_slice_get, IsTied, ap, arith, length}
-use Rattle.ncl_cell_rules.proofs.TableSteps.{after_last, cell_read, first_refused, one_cell_more}
+use Rattle.ncl_cell_rules.proofs.Terms.{IsTied, arith}
+use Rattle.ncl_cell_rules.proofs.TableSteps.{after_last, first_refused, one_cell_more, place_fits, read_is_cell}
 use Rattle.ncl_cell_rules.proofs.tying.first_loose.Goals as goal
 
 pub returns-then-not-is_tied : goal.returns-then-not-is_tied
@@ -13,13 +13,10 @@ loop-place-init c = λ j lt. absurd (omega (arith, lt))
 
 pub is_tied-requires-clause-in_netlist : goal.is_tied-requires-clause-in_netlist
 is_tied-requires-clause-in_netlist c =
-    let n = c.args.origins.now.netlist in
-    Contains-from_slice_get n.cells _ _ (cell_read n _ _ _ (rw c.netlist.ensures.netlist at c.cells-cell-items.ensures.cells) c.loop-place-test.true c.cell-item.is)
+    read_is_cell c.args.origins.now.netlist _ _ _ (rw c.netlist.ensures.netlist at c.cells-cell-items.ensures.cells) c.loop-place-test.true c.cell-item.is
 
 pub overflow_cast-result : goal.overflow_cast-result
-overflow_cast-result c =
-    let few = c.cells-cell-items.ensures.netlist.few_cells in
-    omega (arith, few, ap length c.cells-cell-items.ensures.cells, c.loop-place-test.true)
+overflow_cast-result c = omega (arith, place_fits _ c.cells-cell-items.ensures.netlist _ _ c.cells-cell-items.ensures.cells c.loop-place-test.true)
 
 pub returns : goal.returns
 returns c = after_last c.args.origins.now.netlist IsTied _ (rw c.netlist.ensures.netlist at c.cells-cell-items.ensures.cells) _ c.loop-place.invariant c.loop-place-test.false

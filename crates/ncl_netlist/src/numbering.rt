@@ -1,5 +1,5 @@
 //! The numbers of the nets, in order of first appearance.
-ghost use Rattle.std.specs.Prelude.{◌≡◌, ℕ, ◌+◌, ◌*◌, ◌<◌, ◌≤◌, ◌^◌, ◌++◌, [], List, IfOk, length, map, All};
+ghost use Rattle.std.specs.Prelude.{◌≡◌, ℕ, ◌+◌, ◌*◌, ◌<◌, ◌≤◌, ◌^◌, ◌++◌, [], List, IfOk, OnOk, length, map, All};
 ghost use Rattle.std.specs.List.{flat_map};
 ghost use Rattle.indexmap.specs.IndexSet.{insert_key, insert_all};
 ghost use Rattle.ncl_netlist.specs.Names.{same_name};
@@ -90,6 +90,17 @@ fn number_cells(
     Ok(numbered)
 }
 
+/// Puts the names of the ports into a set that is empty. Linear in the bytes of the names, each of which is copied.
+fn add_ports(alloc: Global, names: &mut IndexSet<Name>, ports: &[Port]) -> Result<(), Memory>
+    requires { names.old.keys ≡ [] }
+    ensures { OnOk result (names.new.keys ≡ insert_all same_name [] (map (λ port. port.name) ports.now)) }
+{
+    for port in ports {
+        names.insert(Name::from_bytes(alloc, port.name.bytes())?)?;
+    }
+    Ok(())
+}
+
 /// The names of the ports, which are the first nets, with room for as many names of cells' nets as are told.
 ///
 /// Linear in the bytes of the names, each of which is copied, and in the room.
@@ -99,9 +110,7 @@ fn number_ports(alloc: Global, ports: &[Port], others: usize) -> Result<IndexSet
         (λ names. names.keys ≡ insert_all same_name [] (map (λ port. port.name) ports.now)) }
 {
     let mut names: IndexSet<Name> = IndexSet::with_capacity(alloc, ports.len() + others)?;
-    for port in ports {
-        names.insert(Name::from_bytes(alloc, port.name.bytes())?)?;
-    }
+    add_ports(alloc, &mut names, ports)?;
     Ok(names)
 }
 

@@ -1,6 +1,6 @@
 use Rattle.std.proofs.Common.{ap, ◌∙◌}
 use Rattle.ncl_netlist.proofs.NameLists.{insert_all-turn}
-use Rattle.ncl_netlist.proofs.numbering.number_ports.Goals as goal
+use Rattle.ncl_netlist.proofs.numbering.add_ports.Goals as goal
 
 pub loop-port-preserved : goal.loop-port-preserved
 loop-port-preserved c =

@@ -1,11 +1,11 @@
 use Rattle.ncl_netlist.proofs.Terms.{AllDiffer, Some, [], ap, length, list_any, map, map_more, option_map, refl, same_name, slice_get, slice_get-map, slice_get_read, subst, sym, take, take-map, true, ◌++◌, ◌∙◌, ◌∷◌, ◌≡◌}
 use Rattle.ncl_netlist.proofs.NameLists.{any-now, insert_key-now, AllDiffer-insert_all, AllDiffer-once_each}
 use Rattle.ncl_netlist.proofs.Steps.{Seen, repeats_first, Seen-more, not_false, not_true}
-use Rattle.ncl_netlist.proofs.cell_rules.first_repeated.Goals as goal
+use Rattle.ncl_netlist.proofs.cell_rules.repeated_by.Goals as goal
 
 pub loop-cell-init : goal.loop-cell-init
 loop-cell-init c =
-    let none : map (λ key. key.now) c.in_ok-seen.seen.keys ≡ [] = ap (map (λ key. key.now)) c.in_ok-seen.ensures.empty in
+    let none : map (λ key. key.now) c.args.seen.now.keys ≡ [] = ap (map (λ key. key.now)) c.requires in
     record { all = none; differ = subst AllDiffer (sym none) (AllDiffer-once_each []) }
 
 pub returns-then-not-added : goal.returns-then-not-added
@@ -16,12 +16,11 @@ returns-then-not-added c =
     let names = map (λ p. p.name) cells in
     let keys = c.loop-cell.seen.keys in
     let seen : map (λ key. key.now) keys ≡ take i names = c.loop-cell.invariant.all ∙ sym (take-map (λ p. p.name) i cells) in
-    let named : c.in_ok-from_bytes.field-0 ≡ cell.name = c.in_ok-from_bytes.ensures ∙ c.bytes-then-not-added.ensures in
     let at : slice_get names i ≡ Some cell.name =
     slice_get-map (λ p. p.name) cells i ∙ ap (option_map (λ p. p.name)) (slice_get_read cells (length cells) i cell refl c.loop-cell-test.true c.cell-item.is) in
     let there : list_any (same_name cell.name) (take i names) ≡ true =
     (λ j. list_any (same_name (sym c.bytes.ensures j)) (sym seen j)) ∙ sym (any-now c.bytes.result.now keys) ∙ not_false _ (sym c.if-not-added.true ∙ c.in_ok-added.ensures.added) in
-    rw named (repeats_first names i cell.name at (subst AllDiffer seen c.loop-cell.invariant.differ) there)
+    repeats_first names i cell.name at (subst AllDiffer seen c.loop-cell.invariant.differ) there
 
 pub loop-cell-preserved : goal.loop-cell-preserved
 loop-cell-preserved c =

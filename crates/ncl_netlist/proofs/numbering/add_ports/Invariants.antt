@@ -1,5 +1,5 @@
 use Rattle.ncl_netlist.proofs.Terms.{[], insert_all, map, same_name, take, ◌≡◌}
-use Rattle.ncl_netlist.proofs.numbering.number_ports.Given as goal
+use Rattle.ncl_netlist.proofs.numbering.add_ports.Given as goal
 
 abbrev pub invariant-loop-port : goal.invariant-loop-port
 invariant-loop-port l =

@@ -1,4 +1,4 @@
-use Rattle.ncl_netlist.proofs.Terms.{All, CellFits, IsFaultOf, IsNetlist, NetlistData, ap, arith, inl, inr, length, netlist_of, nets_of, subst, sym, ◌∙◌, ◌≡◌}
+use Rattle.ncl_netlist.proofs.Terms.{All, CellFits, IsFaultOf, IsNetlist, NetlistData, ap, arith, cell_of, inl, inr, length, length-map, netlist_of, nets_of, subst, sym, ◌∙◌, ◌≡◌}
 use Rattle.ncl_netlist.proofs.Building.{Drafted, drafted, counted, passed_on, cells_fit, ports_within, is_netlist, faultless_by_counts, fault_by_counts}
 use Rattle.ncl_netlist.proofs.netlist.build.Goals as goal
 use Rattle.ncl_netlist.proofs.netlist.build.Goals.{In_ok-nets}
@@ -51,3 +51,11 @@ returns-clause-faultless c =
     let (counts, made, one) = c.in_ok-check_nets.ensures.ok in
     let count = counted c.args.parts _ _ _ _ _ counts (draft (goal.at.returns-clause-faultless c).In_ok-nets) c.items-2.ensures c.deref.ensures.value c.deref-2.ensures.value made in
     faultless_by_counts c.args.parts counts count c.in_ok-check_cells.ensures.ok one
+
+pub number_all-requires-clause-room : goal.number_all-requires-clause-room
+number_all-requires-clause-room c = omega (arith, ap length c.items.ensures, ap length c.into_vec.ensures, c.requires.few_ports, c.in_ok-check_cells.ensures.ok.0)
+
+pub check_nets-requires-clause-few : goal.check_nets-requires-clause-few
+check_nets-requires-clause-few c =
+    let are = draft (goal.at.check_nets-requires-clause-few c).In_ok-nets in
+    omega (arith, ap length (c.deref.ensures.value ∙ are.cells_are), length-map c.args.parts.cells (cell_of (nets_of c.args.parts)), c.in_ok-check_cells.ensures.ok.0)

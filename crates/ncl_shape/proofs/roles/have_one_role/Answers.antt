@@ -1,4 +1,5 @@
-use Rattle.ncl_shape.proofs.Terms.{HasOneRole, IsInputPort, below_more, both_ways, port_read, refl}
+use Rattle.ncl_shape.proofs.Terms.{HasOneRole, IsInputPort, IsNetlist, List, NetlistData, ap, arith, below_more, both_ways, length, port_read, ports-le-nets, refl, ℕ, ◌<◌, ◌∙◌, ◌≡◌}
+use Rattle.ncl_netlist.specs.declared.port.Port.{Port}
 use Rattle.ncl_shape.proofs.PortRoles.{role_of_counts, no_input, ports_passed}
 use Rattle.ncl_shape.proofs.roles.have_one_role.Goals as goal
 use Rattle.ncl_shape.proofs.roles.have_one_role.Goals.{else-not-port-via-then-not-port+else-not-is_one_role, else-not-port-via-else-not-port}
@@ -34,3 +35,16 @@ returns c = (
   (λ holds net input. c.loop-net.invariant net (ports_passed c.args.netlist.now _ c.ports-port-items.ensures.ports _ c.loop-net-test.false net input.0 input.1) input),
   λ roles. refl,
 )
+
+-- a place among the ports is within a table with an entry for each net
+within : (n : NetlistData) → IsNetlist n → (ports : List Port) (net size : ℕ) → ports ≡ n.ports → net < length ports → size ≡ length n.nets → net < size
+within n is ports net size same lt sized = omega (arith, ap length same, lt, ports-le-nets n is, sized)
+
+pub index-requires : goal.index-requires
+index-requires c = within c.args.netlist.now c.ports-port-items.ensures.netlist _ c.loop-net.net _ c.ports-port-items.ensures.ports c.loop-net-test.true (c.in_ok-a.a.ok.0 ∙ c.in_ok-a.ensures.sized)
+
+pub index-requires-then-not-port : goal.index-requires-then-not-port
+index-requires-then-not-port c = within c.args.netlist.now c.ports-port-items.ensures.netlist _ c.loop-net.net _ c.ports-port-items.ensures.ports c.loop-net-test.true (c.in_ok-b.b.ok.0 ∙ c.in_ok-b.ensures.sized)
+
+pub index-requires-then-not-port-2 : goal.index-requires-then-not-port-2
+index-requires-then-not-port-2 c = within c.args.netlist.now c.ports-port-items.ensures.netlist _ c.loop-net.net _ c.ports-port-items.ensures.ports c.loop-net-test.true (c.in_ok-rst.rst.ok.0 ∙ c.in_ok-rst.ensures.sized)

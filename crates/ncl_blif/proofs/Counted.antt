@@ -1,5 +1,5 @@
 -- The fields of lines without the lines, and what the counts of the lines make of them.
-use Rattle.ncl_blif.proofs.Terms.{AreCounted, Count, LineData, List, [], ap, append-nil, arith, cond, count_of, drop, drop-append_seam, drop-drop, drop_more, filter, flat_map, get_or, get_or-map, length, length-append, length-drop, length-map, lines_of, ltb, map, refl, subst, sym, take, take-append_seam, take_all, take_more, ℕ, ◌++◌, ◌+◌, ◌<◌, ◌∙◌, ◌∷◌, ◌≡◌, ◌≤◌}
+use Rattle.ncl_blif.proofs.Terms.{AreCounted, Count, LineData, List, [], ap, append-nil, append_assoc, arith, cond, cond-true, count_of, drop, drop-append_seam, drop-drop, drop_more, filter, flat_map, get_or, get_or-map, length, length-append, length-drop, length-map, lines_of, lt-ltb, ltb, map, refl, subst, sym, take, take-append_seam, take_all, take_more, ℕ, ◌++◌, ◌+◌, ◌<◌, ◌∙◌, ◌∷◌, ◌≡◌, ◌≤◌}
 use Rattle.ncl_blif.proofs.TextLines.{numbered}
 
 -- the fields of lines, one line after another
@@ -32,6 +32,19 @@ read-empty text fields counts number next rest left [] read first shorter none =
       within = let before = read.within in omega arith;
     }
 read-empty text fields counts number next rest left (field ∷ said) read first shorter none = absurd (omega arith)
+
+pub read-counted : (text : List ℕ) (fields : List (List ℕ)) (counts : List Count) (number next : ℕ) (rest left : List ℕ) (said : List (List ℕ)) → AreRead text fields counts number rest
+    → numbered number rest ≡ record { number = number; fields = said } ∷ numbered next left → next + length left ≤ number + length rest → 0 < length said
+    → AreRead text (fields ++ said) (counts ++ record { number = number; fields = length said } ∷ []) next left
+read-counted text fields counts number next rest left [] read first shorter some = absurd (omega arith)
+read-counted text fields counts number next rest left (field ∷ more) read first shorter some =
+    let line : LineData = record { number = number; fields = field ∷ more } in
+    let is : left_lines number rest ≡ line ∷ left_lines next left = left-more number next rest left (field ∷ more) first ∙ cond-true _ _ _ (lt-ltb 0 (length (field ∷ more)) (omega arith)) in
+    record {
+      fields_are = rw append_assoc (ap (λ lines. fields ++ all_fields lines) (sym is) ∙ read.fields_are);
+      counts_are = rw append_assoc (ap (λ lines. counts ++ map count_of lines) (sym is) ∙ read.counts_are);
+      within = let before = read.within in omega arith;
+    }
 
 pub read-all : (text : List ℕ) (fields : List (List ℕ)) (counts : List Count) (number : ℕ) (rest : List ℕ) → AreRead text fields counts number rest → length rest ≡ 0 → AreCounted (lines_of text) fields counts
 read-all text fields counts number [] read end = record { fields_are = sym (append-nil fields) ∙ read.fields_are; counts_are = sym (append-nil counts) ∙ read.counts_are }

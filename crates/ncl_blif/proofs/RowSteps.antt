@@ -1,5 +1,5 @@
 -- Rows that are read one after another.
-use Rattle.ncl_blif.proofs.Terms.{BadRow, BlifFault, Bool, LineData, List, Lit, MixedCover, None, Option, Some, [], and_parts, ap, arith, at_drop_more, beq, bytes_eq, bytes_eq-Decides, codes, cover_ins, drop, eqb, false, false_from_ne_true, first_row_fault, get_or, inl, inr, is_literal, is_names, is_on, is_row_of, is_value, last_field, length, list_all, lists_on, lits_of, map, map_more, not, or_cases, pattern_of, refl, row_fault, rows_fault, suc, sym, take, true, zero, ℕ, ◌&&◌, ◌++◌, ◌+◌, ◌<◌, ◌∙◌, ◌∷◌, ◌≡◌, ◌⊎◌}
+use Rattle.ncl_blif.proofs.Terms.{BadRow, BlifFault, Bool, LineData, List, Lit, MixedCover, None, Option, Some, [], and_parts, ap, arith, at_drop_more, beq, bytes_eq, bytes_eq-Decides, codes, cover_ins, drop, drop_all, eqb, false, false_from_ne_true, first_row_fault, get_or, inl, inr, is_literal, is_names, is_on, is_row_of, is_value, last_field, length, list_all, lists_on, lits_of, map, map_more, not, or_cases, pattern_of, refl, row_fault, rows_fault, suc, sym, take, take_all, true, zero, ℕ, ◌&&◌, ◌++◌, ◌+◌, ◌<◌, ◌∙◌, ◌∷◌, ◌≡◌, ◌≤◌, ◌⊎◌}
 
 -- the value of a row is 0 or 1
 pub row_value : (inputs : ℕ) (fields : List (List ℕ)) → is_row_of inputs fields ≡ true → is_value (last_field fields) ≡ true
@@ -114,6 +114,19 @@ read-mixed inputs lines n rows on line read lt at is ends =
     values_differ (last_field line.fields) (first_value lines) (λ e. ends (e ∙ sym (read.lists ∙ lists-first lines some))) in
     read.fault ∙ fault-more inputs lines n line lt ∙ ap (λ l. fault_from inputs lines (l ∷ drop (n + 1) lines)) (sym at)
     ∙ fault-found inputs lines (drop (n + 1) lines) line (MixedCover line.number) some (λ first e. row_fault-mixed inputs first line is (ap (bytes_eq (last_field line.fields)) e ∙ differs))
+
+fault-end : (inputs : ℕ) (lines : List LineData) → fault_from inputs lines [] ≡ None
+fault-end inputs [] = refl
+fault-end inputs (first ∷ lines) = refl
+
+-- all rows are read
+pub read-all : (head : LineData) (inputs : ℕ) (lines : List LineData) (n : ℕ) (rows : List (List Lit)) (on : Bool) → is_names head ≡ true → inputs ≡ length (cover_ins head) → AreRead inputs lines n rows on → length lines ≤ n
+    → (rows_fault head lines ≡ None) × (rows ≡ map (λ line. lits_of line.fields) lines) × (on ≡ lists_on lines)
+read-all head inputs lines n rows on names count read all = (
+  rows_fault-is head inputs lines names count ∙ read.fault ∙ ap (fault_from inputs lines) (drop_all n lines all) ∙ fault-end inputs lines,
+  read.lits ∙ ap (map (λ line. lits_of line.fields)) (take_all n lines all),
+  read.lists,
+)
 
 -- what a test of two bits for being apart says
 pub bits-same : (a b : Bool) → not (beq a b) ≡ false → a ≡ b

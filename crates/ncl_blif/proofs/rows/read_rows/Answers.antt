@@ -1,5 +1,5 @@
 use Rattle.ncl_blif.proofs.Terms.{Some, ap, arith, err_from_is_err_and, inl, inr, sym, ⊎_elim, ◌∙◌}
-use Rattle.ncl_blif.proofs.RowSteps.{read-more, read-bad, read-mixed, rows_fault-is, bits-same, bits-differ}
+use Rattle.ncl_blif.proofs.RowSteps.{read-all, read-more, read-bad, read-mixed, rows_fault-is, bits-same, bits-differ}
 use Rattle.ncl_blif.proofs.rows.read_rows.Goals as goal
 
 pub returns-in_err-row : goal.returns-in_err-row
@@ -18,3 +18,6 @@ pub loop-line-preserved : goal.loop-line-preserved
 loop-line-preserved c =
     rw c.in_ok-push.ensures.items
     (read-more _ _ _ _ _ c.line-item.result _ c.loop-line.invariant (omega arith) c.line-item.is c.in_ok-row.ensures.0 c.in_ok-row.ensures.1 (sym c.in_ok-row.ensures.2 ∙ bits-same _ _ c.if-is_on-on.false))
+
+pub returns : goal.returns
+returns c = λ head names count. rw c.from_vec-2.ensures (read-all head _ _ _ _ _ names count c.loop-line.invariant (omega (arith, c.loop-line-test.false)))

@@ -6,11 +6,12 @@
 `rt check` writes a file into crates/CRATE/out/incremental for each part of a function's proof as it ends with it, so the time
 between two files is what the later one took. That holds for a check from nothing by one job: remove crates/CRATE/out/incremental
 and run `rt check --jobs 1` in crates/CRATE first, with nothing else running. For each crate the first line tells how long all
-functions took together, and how much of it went into functions that took more than 5 seconds each; then comes a line for each
-function that took at least so many seconds (3 without --least): the seconds, of them those of the generated steps, of the
-search for goals that have no written answer, of the written answers, and of the rest of the proof. Many steps mostly come of
-many owned values that are held while something is called that may fail: give it parts that take references. A search of more
-than two seconds is for a goal that should have an answer.
+files took together, how much of it went into those that are generated from the bodies and the types, into the search for goals
+that have no written answer, and into what a person wrote (definitions, lemmas, invariants, answers), and how much into
+functions that took more than 5 seconds each; then comes a line for each function that took at least so many seconds (3 without
+--least): the seconds, of them those of the generated steps, of the search, of the written answers, and of the rest of the
+proof. Many steps mostly come of many owned values that are held while something is called that may fail: give it parts that
+take references. A search of more than two seconds is for a goal that should have an answer.
 """
 import collections
 import os
@@ -24,6 +25,8 @@ from script import Parser, Refused, carry_out
 
 # How the file of a part of a proof ends its name; what is left is the function, or a file of lemmas.
 PARTS = r"Lts|Proof|Tie|Code|Statement|Goals|Met|Kinds[-\d]*|Invariants|Answers|Reads|Given|View|Layout|Named|Symbol|Key|TheLink"
+# The parts that a person writes. The search is the part Proof, and the others are generated.
+WRITTEN = ("Answers", "Invariants")
 MANY = 5
 
 
@@ -58,10 +61,31 @@ def costs_of(crate):
     return costs, files[-1][0] - files[0][0]
 
 
+def maker_of(crate, name, part):
+    """Who makes a module: generated, search or written."""
+    if part == "Proof":
+        return "search"
+    file = name.replace(".", "/") + ".antt"
+    is_own = not part and any((TOP / "crates" / crate / it / file).is_file() for it in ("specs", "proofs"))
+    return "written" if is_own or part in WRITTEN else "generated"
+
+
+def shares_of(crate, costs):
+    """The seconds of all modules together, by who makes them."""
+    shares = collections.Counter()
+    for name, parts in costs.items():
+        for part, took in parts.items():
+            shares[maker_of(crate, name, part)] += took
+    return shares
+
+
 def tell(crate, least):
     costs, whole = costs_of(crate)
     sums = {name: sum(parts.values()) for name, parts in costs.items()}
-    print(f"{crate}: {whole:.0f} s, {sum(max(it - MANY, 0) for it in sums.values()):.0f} s of them above {MANY} s a function")
+    shares = shares_of(crate, costs)
+    told = ", ".join(f"{it} {shares[it]:.0f}" for it in ("generated", "search", "written"))
+    above = sum(max(it - MANY, 0) for it in sums.values())
+    print(f"{crate}: {whole:.0f} s ({told}), {above:.0f} s of them above {MANY} s a function")
     for name, took in sorted(sums.items(), key=lambda it: -it[1]):
         if took >= least:
             steps, search, answers = (costs[name][part] for part in ("Lts", "Proof", "Answers"))

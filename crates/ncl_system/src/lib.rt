@@ -5,8 +5,6 @@
 #![tactic(auto)]
 
 mod arguments;
-#[cfg(test)]
-mod edge_tests;
 mod file_source;
 mod stdout_sink;
 mod tally;

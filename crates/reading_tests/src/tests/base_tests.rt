@@ -1,4 +1,4 @@
-//! That files are asked for in small pieces, and why one is not loaded.
+//! That files are asked for in small pieces.
 use ncl_base::*;
 use std::alloc::Global;
 use std::test::Fail;
@@ -23,12 +23,5 @@ fn is_loaded(alloc: Global, failing: u64) -> Result<bool, Memory> {
 fn loads_at_most_4096_bytes_at_a_time(rt: HostRuntime) -> Result<(), Fail> {
     assert!(rt; !is_loaded(rt.alloc(), 4)?);
     assert!(rt; is_loaded(rt.alloc(), 5)?);
-    Ok(())
-}
-
-#[test]
-fn why_a_file_is_not_loaded_is_told(rt: HostRuntime) -> Result<(), Fail> {
-    let told = format!(in rt.alloc(); "{}, {}", LoadFault::Read, LoadFault::TooLong)?;
-    assert!(rt; told.as_str() == "the file can't be read, the file has more than 16,777,216 bytes");
     Ok(())
 }

@@ -1,7 +1,6 @@
 //! Real files, and printers that fail.
-use crate::file_source::FileSource;
-use crate::stdout_sink::StdoutSink;
 use ncl_base::{LoadFault, SinkFault, Source, deliver, load};
+use ncl_system::{FileSource, StdoutSink};
 use std::alloc::Global;
 use std::fmt::Display;
 use std::io::{ErrorKind, Print};

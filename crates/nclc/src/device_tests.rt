@@ -13,7 +13,7 @@ const READ_FAILED: &str = "read failed\n";
 /// The read that fails, the room of the sink, the write that fails, the status and the text.
 ///
 /// Reads of 64 bytes: one call to begin, six with bytes and one at the end. Writes of 8 bytes: five for the whole line.
-const EDGES: [(u64, usize, u64, u8, &str); 18] = [
+static EDGES: [(u64, usize, u64, u8, &str); 18] = [
     (0, 100, 0, 0, ACCEPTED),
     (1, 100, 0, 4, READ_FAILED),
     (2, 100, 0, 4, READ_FAILED),
@@ -46,7 +46,7 @@ fn checked<R: Threads + Sync>(
 
 #[test]
 fn edges_that_fail_are_told(rt: HostRuntime) -> Result<(), Fail> {
-    for (read, room, write, status, text) in EDGES {
+    for &(read, room, write, status, text) in &EDGES {
         let files = held(rt.alloc(), WIRES.as_bytes().to_vec(rt.alloc())?)?;
         let mut source = MemSource::new(files, 64, vec![in rt.alloc(); read]?);
         let mut sink = MemSink::new(rt.alloc(), room, 8, vec![in rt.alloc(); write]?)?;

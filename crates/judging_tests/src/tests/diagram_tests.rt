@@ -43,7 +43,7 @@ fn chain<P: Space>(space: &mut P, kind: Kind) -> Result<Ref, SpaceFault>
 }
 
 /// Gates, and the nodes of their chains over four bits, counted by truth tables.
-const CHAINS: [(Kind, u32); 5] = [
+static CHAINS: [(Kind, u32); 5] = [
     (Kind::Th13, 10),
     (Kind::Th23, 12),
     (Kind::Th33, 10),
@@ -63,7 +63,7 @@ fn nodes_of(alloc: Global, kind: Kind, limit: u32) -> Result<u32, SpaceFault>
 
 #[test]
 fn chains_have_so_many_nodes(rt: HostRuntime) {
-    for (kind, nodes) in CHAINS {
+    for &(kind, nodes) in &CHAINS {
         assert!(rt; kind.arity() == 3 && nodes >= 2);
         let enough = nodes_of(rt.alloc(), kind, nodes);
         assert_eq!(rt; enough, Ok(nodes), "{kind:?}");

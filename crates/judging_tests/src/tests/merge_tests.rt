@@ -8,7 +8,7 @@ use std::alloc::Global;
 use std::test::*;
 
 /// Gates, and the kinds and names of all gates after folds, in the order of the file.
-const ROWS: [(&str, &str); 10] = [
+static ROWS: [(&str, &str); 10] = [
     // one minterm and two nets that two gates read
     (
         "TH22 g1(.A(p0),.B(q0),.Z(a));TH22 g2(.A(p0),.B(q1),.Z(b));TH22 g3(.A(p1),.B(q0),.Z(v));\
@@ -102,7 +102,7 @@ fn has_gates(netlist: &Netlist, gates: &str) -> bool {
 
 #[test]
 fn gates_are_folded_or_stay(rt: HostRuntime) -> Result<(), Fail> {
-    for (gates, wanted) in ROWS {
+    for &(gates, wanted) in &ROWS {
         let text = between(rt.alloc(), gates)?;
         let found = fold_all(rt.alloc(), netlist(&rt, rt.alloc(), &text)?)?;
         assert!(rt; has_gates(&found, wanted), "{gates}");

@@ -9,7 +9,7 @@ use std::process::Abort;
 
 /// Models, and the nodes of the functions that their first output depends on, with those of the rows and all complements.
 /// They were counted by truth tables.
-const MODELS: [(&str, u32); 15] = [
+static MODELS: [(&str, u32); 15] = [
     // a conjunction
     (".model m\n.inputs a b\n.outputs y\n.names a b y\n11 1\n", 6),
     // its off-set
@@ -91,7 +91,7 @@ fn try_limits(rt: &(impl Abort + AllocGlobal), text: &str, nodes: u32) {
 
 #[test]
 fn models_have_so_many_nodes(rt: HostRuntime) {
-    for (text, nodes) in MODELS {
+    for &(text, nodes) in &MODELS {
         try_limits(&rt, text, nodes);
     }
 }

@@ -30,7 +30,7 @@ pub(crate) fn are_rewritten(
     Ok(())
 }
 
-const READ: [(&str, &str); 19] = [
+static READ: [(&str, &str); 19] = [
     ("module m;endmodule", "module m;\nendmodule\n"),
     ("module m();endmodule\n", "module m;\nendmodule\n"),
     // white space, comments and attributes

@@ -3,7 +3,7 @@
 use super::reader_tests::are_rewritten;
 use std::test::*;
 
-const READ: [(&str, &str); 7] = [
+static READ: [(&str, &str); 7] = [
     // declarations in the header, as names there and items behind it
     (WORKED, WORKED_WRITTEN),
     (YOSYS, WORKED_WRITTEN),

@@ -4,19 +4,21 @@ ghost use Rattle.ncl_blif.specs.Model.{AreModels};
 ghost use Rattle.ncl_delay.specs.declared.word_text.TheConstants.{MOST_WORDS as LIMIT};
 ghost use Rattle.ncl_machine.specs.Run.{AreWordsOf};
 ghost use Rattle.ncl_reader.specs.GraphicNames.{HasGraphicNames};
+ghost use Rattle.ncl_report.specs.TraceText.{NamesItemOf};
+ghost use Rattle.ncl_vcd.specs.RunDump.{BeginsTimedRun};
 
 use ncl_base::{MOST_BITS, MOST_BYTES, Word};
 use ncl_blif::{Model, read_blif};
 use ncl_check::{Judging, PARTS, check};
 use ncl_compile::compile;
-use ncl_delay::{Delays, MOST_WORDS, read_delays, read_words};
+use ncl_delay::{Delays, Fired, MOST_WORDS, read_delays, read_words};
 use ncl_match::{Bits, Compared, compare};
 use ncl_merge::merge;
 use ncl_netlist::Netlist;
 use ncl_reader::read_netlist;
 use ncl_report::trace_text;
 use ncl_shape::{Pipeline, shape};
-use ncl_sim::simulate;
+use ncl_sim::{Trace, simulate};
 use ncl_vcd::dump;
 use ncl_verdict::Stages;
 use ncl_writer::{is_writable, write_netlist};
@@ -35,14 +37,10 @@ pub(crate) fn go_all_the_way<R: Threads + Sync + AllocGlobal + Print>(
     delays: &[u8],
     words: &[u8],
 ) -> anyhow::Result<()> {
-    let alloc = rt.alloc();
-    let models = models_of(alloc, blif)?;
-    let text = merged_text(alloc, &models)?;
+    let models = models_of(rt.alloc(), blif)?;
+    let text = merged_text(rt.alloc(), &models)?;
     print_checked(rt, &text)?;
-    let netlist = read_netlist(alloc, &text)?;
-    let pipeline = shape(alloc, &netlist)?;
-    print_compared(rt, &pipeline, &models)?;
-    print_run(rt, &pipeline, delays, words)
+    print_text(rt, &text, &models, delays, words)
 }
 
 /// The models of a text of BLIF.
@@ -78,6 +76,37 @@ fn print_checked<R: Threads + Sync + AllocGlobal + Print>(rt: &R, text: &[u8]) -
     let told = check(&judging, text, NODES, false)?;
     rt.write_all(&told.text)?;
     Ok(())
+}
+
+/// Prints what is found of the text of a netlist beside the verdict.
+fn print_text<R: Threads + Sync + AllocGlobal + Print>(
+    rt: &R,
+    text: &[u8],
+    models: &[Model],
+    delays: &[u8],
+    words: &[u8],
+) -> anyhow::Result<()>
+    requires short { length text.now ≤ MOST_BYTES }
+    requires models { AreModels models.now }
+{
+    let netlist = read_netlist(rt.alloc(), text)?;
+    print_netlist(rt, &netlist, models, delays, words)
+}
+
+/// Prints whether a netlist computes what models say, and its run at some delays over some words.
+fn print_netlist<R: Threads + Sync + AllocGlobal + Print>(
+    rt: &R,
+    netlist: &Netlist,
+    models: &[Model],
+    delays: &[u8],
+    words: &[u8],
+) -> anyhow::Result<()>
+    requires names { HasGraphicNames netlist.now }
+    requires models { AreModels models.now }
+{
+    let pipeline = shape(rt.alloc(), netlist)?;
+    print_compared(rt, &pipeline, models)?;
+    print_run(rt, &pipeline, delays, words)
 }
 
 /// Prints whether a netlist computes what models say.
@@ -135,14 +164,54 @@ fn print_run<R: AllocGlobal + Print>(
 ) -> anyhow::Result<()>
     requires { HasGraphicNames pipeline.now.netlist }
 {
-    let alloc = rt.alloc();
+    let delays = delays_of(rt.alloc(), pipeline.netlist(), delays)?;
+    let words = offered(rt.alloc(), pipeline, words)?;
+    print_run_of(rt, pipeline, &delays, &words)
+}
+
+/// The same, of delays and words that are read.
+fn print_run_of<R: AllocGlobal + Print>(
+    rt: &R,
+    pipeline: &Pipeline,
+    delays: &Delays,
+    words: &[Word],
+) -> anyhow::Result<()>
+    requires names { HasGraphicNames pipeline.now.netlist }
+    requires wide { AreWordsOf pipeline.now words.now }
+    requires few { length words.now ≤ LIMIT }
+{
     pipeline.facts();
-    let delays = delays_of(alloc, pipeline.netlist(), delays)?;
-    let words = offered(alloc, pipeline, words)?;
-    let trace = simulate(alloc, pipeline, &delays, &words)?;
+    let trace = simulate(rt.alloc(), pipeline, delays, words)?;
     let due = pipeline.data_banks() + words.len();
-    rt.write_all(&trace_text(alloc, pipeline, &trace, due)?)?;
-    let wave = dump(alloc, pipeline, &words, trace.steps.items())?;
+    print_trace(rt, pipeline, &trace, due)?;
+    print_dump(rt, pipeline, words, trace.steps.items())
+}
+
+/// Prints the lines of a run in which so many words are due.
+fn print_trace<R: AllocGlobal + Print>(
+    rt: &R,
+    pipeline: &Pipeline,
+    trace: &Trace,
+    due: usize,
+) -> anyhow::Result<()>
+    requires { NamesItemOf pipeline.now trace.now.end }
+{
+    rt.write_all(&trace_text(rt.alloc(), pipeline, trace, due)?)?;
+    Ok(())
+}
+
+/// Prints how long the dump of a run is.
+fn print_dump<R: AllocGlobal + Print>(
+    rt: &R,
+    pipeline: &Pipeline,
+    words: &[Word],
+    fired: &[Fired],
+) -> anyhow::Result<()>
+    requires names { HasGraphicNames pipeline.now.netlist }
+    requires wide { AreWordsOf pipeline.now words.now }
+    requires run { BeginsTimedRun pipeline.now words.now fired.now }
+{
+    let wave = dump(rt.alloc(), pipeline, words, fired)?;
     println!(rt; "a dump of {} bytes", wave.len())?;
     Ok(())
 }

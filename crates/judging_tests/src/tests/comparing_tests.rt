@@ -1,10 +1,12 @@
 //! Netlists are compared with models by several threads.
 ghost use Rattle.std.specs.Prelude.{◌≤◌};
+ghost use Rattle.ncl_blif.specs.Model.{AreModels};
 
 use super::netlist_texts::netlist;
 use ncl_base::Memory;
-use ncl_blif::read_blif;
+use ncl_blif::{Model, read_blif};
 use ncl_match::{BitAnswer, Bits, CompareBit, CompareFault, Compared, Sides, compare};
+use ncl_netlist::Netlist;
 use ncl_shape::shape;
 use std::alloc::Global;
 use std::process::Abort;
@@ -51,9 +53,23 @@ fn is_compared<R: Threads + Sync + Abort + AllocGlobal, B: CompareBit + Sync>(
     requires { (1 ≤ parts) × (parts ≤ 16) }
 {
     let netlist = netlist(rt, rt.alloc(), THREE)?;
-    let pipeline = shape(rt.alloc(), &netlist)?;
     let models = read_blif(rt.alloc(), THREE_MODEL)?;
-    let found = compare(rt, rt.alloc(), bits, &pipeline, &models, 100_000, parts);
+    differ_by(rt, bits, &netlist, &models, parts)
+}
+
+/// Whether a netlist and models are found to differ so, by so many threads.
+fn differ_by<R: Threads + Sync + Abort + AllocGlobal, B: CompareBit + Sync>(
+    rt: &R,
+    bits: &B,
+    netlist: &Netlist,
+    models: &[Model],
+    parts: u32,
+) -> Result<bool, Fail>
+    requires parts { (1 ≤ parts) × (parts ≤ 16) }
+    requires models { AreModels models.now }
+{
+    let pipeline = shape(rt.alloc(), netlist)?;
+    let found = compare(rt, rt.alloc(), bits, &pipeline, models, 100_000, parts);
     Ok(differ_at_01(&found))
 }
 

@@ -72,15 +72,25 @@ fn chains_have_so_many_nodes(rt: HostRuntime) {
     }
 }
 
+/// Whether the least word at which a function has a value has 128 bits, all of that value.
+fn is_least_throughout<P: Space>(space: &P, function: Ref, value: bool) -> bool
+    requires { IsLive (P.meaning space.now) function }
+{
+    let mut word = Word::new();
+    let is_found = if value {
+        space.least_one(function, &mut word)
+    } else {
+        space.least_zero(function, &mut word)
+    };
+    is_found && word.bits().len() == 128 && word.bits().iter().all(|bit| *bit == value)
+}
+
 #[test]
 fn words_of_128_bits(rt: HostRuntime) -> Result<(), Fail> {
     let mut diagram = Diagram::new(rt.alloc(), 128, 20_000);
     let all = chain(&mut diagram, Kind::Th33)?;
-    let mut word = Word::new();
-    assert!(rt; diagram.least_one(all, &mut word));
-    assert!(rt; word.bits().len() == 128 && word.bits().iter().all(|bit| *bit));
-    assert!(rt; diagram.least_zero(all, &mut word));
-    assert!(rt; word.bits().len() == 128 && word.bits().iter().all(|bit| !*bit));
+    assert!(rt; is_least_throughout(&diagram, all, true));
+    assert!(rt; is_least_throughout(&diagram, all, false));
 
     // a node for each bit, and one for each pair of a front of the word and a bit of it but the last
     assert_eq!(rt; diagram.nodes(), 128 + 128 * 127 / 2);

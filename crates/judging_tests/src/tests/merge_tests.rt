@@ -3,7 +3,7 @@ use super::netlist_texts::{between, netlist};
 use ncl_gates::CellKind;
 use ncl_merge::{fold_pipeline, rebuild};
 use ncl_netlist::Netlist;
-use ncl_shape::shape;
+use ncl_shape::{Pipeline, shape};
 use std::alloc::Global;
 use std::test::*;
 
@@ -68,8 +68,13 @@ static ROWS: [(&str, &str); 10] = [
 /// The netlist after folds of one round, if two gates can be folded.
 fn round(alloc: Global, netlist: &Netlist) -> Result<Option<Netlist>, Fail> {
     let pipeline = shape(alloc, netlist)?;
-    match fold_pipeline(alloc, &pipeline)? {
-        Some(lists) => Ok(Some(rebuild(alloc, &pipeline, &lists)?)),
+    folded(alloc, &pipeline)
+}
+
+/// The same, of a netlist whose pipeline is found.
+fn folded(alloc: Global, pipeline: &Pipeline) -> Result<Option<Netlist>, Fail> {
+    match fold_pipeline(alloc, pipeline)? {
+        Some(lists) => Ok(Some(rebuild(alloc, pipeline, &lists)?)),
         None => Ok(None),
     }
 }

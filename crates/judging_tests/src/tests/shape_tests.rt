@@ -1,7 +1,7 @@
 //! Long lines of gates are followed, and a cycle of as many is found.
 use super::netlist_texts::netlist;
 use ncl_cell_rules::CellFault;
-use ncl_netlist::CellId;
+use ncl_netlist::{CellId, Netlist};
 use ncl_shape::{ShapeFault, shape};
 use std::alloc::Global;
 use std::process::Abort;
@@ -37,7 +37,12 @@ fn cycle_in_line(
     closed: bool,
 ) -> Result<Option<CellId>, Fail> {
     let netlist = netlist(rt, alloc, &line(alloc, against, closed)?)?;
-    match shape(alloc, &netlist) {
+    first_of_cycle(alloc, &netlist)
+}
+
+/// The first gate of a cycle in a netlist, if there is one.
+fn first_of_cycle(alloc: Global, netlist: &Netlist) -> Result<Option<CellId>, Fail> {
+    match shape(alloc, netlist) {
         Ok(_) => Ok(None),
         Err(ShapeFault::CellRule(CellFault::Cycle(cell))) => Ok(Some(cell)),
         Err(_) => Err(Fail::new("another fault")),

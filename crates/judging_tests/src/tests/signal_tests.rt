@@ -1,4 +1,5 @@
 //! How many nodes the functions of models have, with those of the rows of their covers.
+ghost use Rattle.std.specs.Prelude.{◌≤◌};
 
 use ncl_base::MOST_BYTES;
 use ncl_blif::read_blif;
@@ -67,12 +68,23 @@ fn are_within(rt: &(impl Abort + AllocGlobal), text: &str, limit: u32) -> Result
     let Ok(models) = read_blif(rt.alloc(), bytes) else {
         return Err(SpaceFault::Memory);
     };
-    let inputs = first_width(&models);
-    let outputs = last_width(&models);
+    let ordered = OrderedModels::of(rt.alloc(), &models)?;
+    is_pair_within(rt, &ordered, limit)
+}
+
+/// The same, of models whose covers are ordered.
+fn is_pair_within(
+    rt: &(impl Abort + AllocGlobal),
+    ordered: &OrderedModels,
+    limit: u32,
+) -> Result<bool, SpaceFault>
+    requires { 1 ≤ limit }
+{
+    let inputs = first_width(ordered.models());
+    let outputs = last_width(ordered.models());
     assert!(rt; inputs >= 1 && inputs <= 128 && outputs >= 1);
     let mut space = Diagram::new(rt.alloc(), inputs, limit);
-    let ordered = OrderedModels::of(rt.alloc(), &models)?;
-    match models_pair(rt.alloc(), &mut space, &ordered, 0) {
+    match models_pair(rt.alloc(), &mut space, ordered, 0) {
         Ok(_) => Ok(true),
         Err(SpaceFault::Full) => Ok(false),
         Err(SpaceFault::Memory) => Err(SpaceFault::Memory),

@@ -1,37 +1,40 @@
 //! Tests against tables that were written apart from the code.
 use ncl_gates::{CellKind, Kind};
 
-/// A line for each gate: its name, its pins, its set function at the words of four pins, pin A turning fastest, and the sum of
+/// Each gate with a line: its name, its pins, its set function at the words of four pins, pin A turning fastest, and the sum of
 /// products that docs/formats.md has for it, by which the values were worked out.
-static GATES: &str = "\
-TH12 AB 0111011101110111 A+B
-TH22 AB 0001000100010001 AB
-TH13 ABC 0111111101111111 A+B+C
-TH23 ABC 0001011100010111 AB+AC+BC
-TH33 ABC 0000000100000001 ABC
-TH23w2 ABC 0101011101010111 A+BC
-TH33w2 ABC 0001010100010101 AB+AC
-TH14 ABCD 0111111111111111 A+B+C+D
-TH24 ABCD 0001011101111111 AB+AC+AD+BC+BD+CD
-TH34 ABCD 0000000100010111 ABC+ABD+ACD+BCD
-TH44 ABCD 0000000000000001 ABCD
-TH24w2 ABCD 0101011101111111 A+BC+BD+CD
-TH34w2 ABCD 0001010101010111 AB+AC+AD+BCD
-TH44w2 ABCD 0000000100010101 ABC+ABD+ACD
-TH34w3 ABCD 0101010101010111 A+BCD
-TH44w3 ABCD 0001010101010101 AB+AC+AD
-TH24w22 ABCD 0111011101111111 A+B+CD
-TH34w22 ABCD 0001011101110111 AB+AC+AD+BC+BD
-TH44w22 ABCD 0001000100010111 AB+ACD+BCD
-TH54w22 ABCD 0000000100010001 ABC+ABD
-TH34w32 ABCD 0101011101110111 A+BC+BD
-TH54w32 ABCD 0001000100010101 AB+ACD
-TH44w322 ABCD 0001011101010111 AB+AC+AD+BC
-TH54w322 ABCD 0001010100010111 AB+AC+BCD
-THxor0 ABCD 0001000100011111 AB+CD
-THand0 ABCD 0001001101010111 AB+BC+AD
-TH24comp ABCD 0000011101110111 AC+BC+AD+BD
-";
+static GATES: [(Kind, &str); 27] = [
+    (Kind::Th12, "TH12 AB 0111011101110111 A+B"),
+    (Kind::Th22, "TH22 AB 0001000100010001 AB"),
+    (Kind::Th13, "TH13 ABC 0111111101111111 A+B+C"),
+    (Kind::Th23, "TH23 ABC 0001011100010111 AB+AC+BC"),
+    (Kind::Th33, "TH33 ABC 0000000100000001 ABC"),
+    (Kind::Th23w2, "TH23w2 ABC 0101011101010111 A+BC"),
+    (Kind::Th33w2, "TH33w2 ABC 0001010100010101 AB+AC"),
+    (Kind::Th14, "TH14 ABCD 0111111111111111 A+B+C+D"),
+    (Kind::Th24, "TH24 ABCD 0001011101111111 AB+AC+AD+BC+BD+CD"),
+    (Kind::Th34, "TH34 ABCD 0000000100010111 ABC+ABD+ACD+BCD"),
+    (Kind::Th44, "TH44 ABCD 0000000000000001 ABCD"),
+    (Kind::Th24w2, "TH24w2 ABCD 0101011101111111 A+BC+BD+CD"),
+    (Kind::Th34w2, "TH34w2 ABCD 0001010101010111 AB+AC+AD+BCD"),
+    (Kind::Th44w2, "TH44w2 ABCD 0000000100010101 ABC+ABD+ACD"),
+    (Kind::Th34w3, "TH34w3 ABCD 0101010101010111 A+BCD"),
+    (Kind::Th44w3, "TH44w3 ABCD 0001010101010101 AB+AC+AD"),
+    (Kind::Th24w22, "TH24w22 ABCD 0111011101111111 A+B+CD"),
+    (
+        Kind::Th34w22,
+        "TH34w22 ABCD 0001011101110111 AB+AC+AD+BC+BD",
+    ),
+    (Kind::Th44w22, "TH44w22 ABCD 0001000100010111 AB+ACD+BCD"),
+    (Kind::Th54w22, "TH54w22 ABCD 0000000100010001 ABC+ABD"),
+    (Kind::Th34w32, "TH34w32 ABCD 0101011101110111 A+BC+BD"),
+    (Kind::Th54w32, "TH54w32 ABCD 0001000100010101 AB+ACD"),
+    (Kind::Th44w322, "TH44w322 ABCD 0001011101010111 AB+AC+AD+BC"),
+    (Kind::Th54w322, "TH54w322 ABCD 0001010100010111 AB+AC+BCD"),
+    (Kind::ThXor0, "THxor0 ABCD 0001000100011111 AB+CD"),
+    (Kind::ThAnd0, "THand0 ABCD 0001001101010111 AB+BC+AD"),
+    (Kind::Th24comp, "TH24comp ABCD 0000011101110111 AC+BC+AD+BD"),
+];
 
 /// The values of four pins at a word, of which pin A is the lowest bit.
 fn pins_at(word: u8) -> [bool; 4] {
@@ -62,20 +65,20 @@ fn has_values(kind: Kind, values: &[u8]) -> bool {
     true
 }
 
-/// Whether the gate of a line has its name, its pins and its values.
-fn is_gate_of(line: &str) -> Option<bool> {
+/// Whether a gate has the name, the pins and the values of a line, and is found by the name.
+fn is_told_by(kind: Kind, line: &str) -> Option<bool> {
     let (name, line) = line.split_once(' ')?;
     let (pins, line) = line.split_once(' ')?;
     let (values, _) = line.split_once(' ')?;
-    let kind = Kind::from_name(name.as_bytes())?;
-    let is_named = kind.name() == name.as_bytes() && kind.arity() == pins.len();
-    Some(is_named && values.len() == 16 && has_values(kind, values.as_bytes()))
+    let is_named = kind.name() == name.as_bytes() && Kind::from_name(name.as_bytes()) == Some(kind);
+    let is_whole = kind.arity() == pins.len() && values.len() == 16;
+    Some(is_named && is_whole && has_values(kind, values.as_bytes()))
 }
 
 #[test]
 fn gates_are_those_of_the_table(rt: HostRuntime) {
-    for line in GATES.lines() {
-        assert!(rt; is_gate_of(line) == Some(true), "{line}");
+    for &(kind, line) in &GATES {
+        assert!(rt; is_told_by(kind, line) == Some(true), "{line}");
     }
 }
 

@@ -88,16 +88,31 @@ fn told_token(alloc: Global, token: Token) -> Result<String, Memory> {
     Ok(format!(in alloc; "{:?} {}-{} ", token.kind, token.start, token.end)?)
 }
 
-/// The tokens of a text, and the bad byte that ends them, if one does, as the rows tell them.
+/// How an end is told after which the next call gives this.
+fn told_end(
+    alloc: Global,
+    end: Result<Option<Token>, TokenFault>,
+    next: Result<Option<Token>, TokenFault>,
+) -> Result<String, Memory> {
+    if next != end {
+        return Ok(String::from_str(alloc, "another end at the next call")?);
+    }
+    match end {
+        Err(TokenFault::BadByte(place)) => Ok(format!(in alloc; "bad {place}")?),
+        Ok(_) => Ok(String::new(alloc)),
+    }
+}
+
+/// The tokens of a text, and the bad byte that ends them, if one does, as the rows tell them; the end has to be the same when it
+/// is asked once more.
 fn told(alloc: Global, text: &[u8]) -> Result<String, Memory> {
     let mut told = String::new(alloc);
     let mut tokens = Tokens::new(text);
     for _ in 0..=text.len() {
         match tokens.next() {
             Ok(Some(token)) => told.push_str(&told_token(alloc, token)?)?,
-            Ok(None) => break,
-            Err(TokenFault::BadByte(place)) => {
-                told.push_str(&format!(in alloc; "bad {place}")?)?;
+            end => {
+                told.push_str(&told_end(alloc, end, tokens.next())?)?;
                 break;
             }
         }
